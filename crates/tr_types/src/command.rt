@@ -1,0 +1,49 @@
+// What a program asks of the file system, and what it is told.
+use crate::{Bytes, Names, Path, Right};
+
+/// A file command.
+#[derive(Debug, Drop)]
+pub enum Command {
+    Create { path: Path, mode: u16 },
+    Stat { path: Path },
+}
+
+/// What stands at a path.
+#[derive(Clone, Copy, Debug, PartialEq, Eq)]
+pub enum Kind {
+    File,
+    Dir,
+}
+
+/// What a call is told at its end. Addresses and sizes are in bytes, times in ticks.
+#[derive(Debug, Drop)]
+pub enum Reply {
+    Made,
+    Gone,
+    Wrote(u64),
+    Cut,
+    Data(Bytes),
+    /// Kind, size, uid, gid and mode. The size of a directory is its number of names.
+    Info(Kind, u64, u32, u32, u16),
+    Names(Names),
+    Moded,
+    Moved,
+    Denied(Right, Path),
+    NotFound,
+    NotDir,
+    Exists,
+    IsDir,
+    NotEmpty,
+    TooBig(u64),
+    TooLong,
+    CrossCoffer,
+    TooMany,
+    NoSpace { need: u32, free: u32 },
+    Quarantined,
+    Busy { addr: u64, word: u64, now: u32 },
+    Expired { addr: u64, word: u64 },
+    NoKey,
+    InUse { thread: u16 },
+    Again { times: u8 },
+    Damaged { addr: u64 },
+}

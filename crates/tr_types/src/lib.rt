@@ -1,0 +1,20 @@
+//! What the parts of the laboratory say to each other: actions and answers, commands and replies,
+//! kernel calls, the entries of a trace, and where the fields of an image stand.
+#![tactic(auto)]
+
+mod action;
+mod command;
+mod entry;
+mod kernel_call;
+pub mod layout;
+mod permission;
+mod rule;
+mod text;
+
+pub use action::{Action, Answer, FaultKind};
+pub use command::{Command, Kind, Reply};
+pub use entry::{CofferList, CofferRow, CofferState, Entry, Mark, Pick, Trace, Why};
+pub use kernel_call::{FoundAt, Holder, Kcall, KernAnswer, Mapped};
+pub use permission::{Cred, Perm, Right};
+pub use rule::Rule;
+pub use text::{Bytes, Name, Names, Pages, Path};
