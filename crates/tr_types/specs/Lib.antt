@@ -4,3 +4,9 @@ pub mod Fold
 pub mod Layout
 -- every word of a new image
 pub mod NewImage
+-- what the kernel's pages say
+pub mod KernelView
+-- the machine: what it answers, and what an entry leaves
+pub mod Machine
+-- what the actions of a call are for
+pub mod Marks

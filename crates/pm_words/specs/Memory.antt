@@ -1,0 +1,33 @@
+use Rattle.std.specs.Prelude.{◌≡◌, ℕ, ◌*◌, ◌/◌, ◌%◌, ◌<◌, ◌≤◌, List, map, slice_index_or, slice_set}
+use Rattle.pm_words.specs.Word.{Word, settled, stored}
+
+-- the word at a byte address
+abbrev pub word_at : List Word → ℕ → Word
+word_at words address = slice_index_or words (address / 8) (settled 0)
+
+-- the memory after one value is stored at a byte address: one word changes
+abbrev pub store_at : ℕ → ℕ → List Word → List Word
+store_at address value words = slice_set words (address / 8) (stored value (word_at words address))
+
+-- the present value of each word
+abbrev pub present_values : List Word → List ℕ
+present_values words = map (λ w. w.present) words
+
+-- the memory in which each of these values is durable
+abbrev pub all_durable : List ℕ → List Word
+all_durable values = map settled values
+
+-- a byte address of one of `count` words
+pub record IsAddress (count address : ℕ) : Type 0 where
+  pub aligned : address % 8 ≡ 0
+  pub inside : address / 8 < count
+
+-- `count` words are this many whole pages of 512 words, from 64 pages to 16,384
+pub record IsPages (count pages : ℕ) : Type 0 where
+  pub whole : count ≡ 512 * pages
+  pub least : 64 ≤ pages
+  pub most : pages ≤ 16384
+
+-- `count` words are whole pages, from 64 pages to 16,384
+abbrev pub HasPages : ℕ → Type 0
+HasPages count = IsPages count (count / 512)

@@ -1,0 +1,99 @@
+-- The machine. An entry of a trace is a test on the machine before it (`Fits`) and a total function to the machine
+-- after it (`moved`). Cases that no entry has yet are `⊥`.
+use Rattle.std.specs.Prelude.{◌≡◌, ℕ, ◌<◌, ◌≤◌, List, [], ◌∷◌, ◌++◌, length, take, map, Bool, true, false, Contains, Option, Some, None}
+use Rattle.pm_words.specs.Word.{Word}
+use Rattle.pm_words.specs.Memory.{word_at, store_at, all_durable, present_values, IsAddress}
+use Rattle.tr_types.specs.NewImage.{new_image}
+use Rattle.tr_types.specs.KernelView.{free_pages, given_to}
+use Rattle.tr_types.specs.declared.action.Action.{Action}
+use Rattle.tr_types.specs.declared.action.Action.TheVariants.{Load, Store, Cas, Flush, Fence, Pkru, Kernel}
+use Rattle.tr_types.specs.declared.action.Answer.{Answer}
+use Rattle.tr_types.specs.declared.action.Answer.TheVariants.{Word as WordIs, Done, Fault, Kern}
+use Rattle.tr_types.specs.declared.action.FaultKind.{FaultKind}
+use Rattle.tr_types.specs.declared.action.FaultKind.TheVariants.{NotMapped, NotWritable, KeyDenied}
+use Rattle.tr_types.specs.declared.kernel_call.Kcall.{Kcall}
+use Rattle.tr_types.specs.declared.kernel_call.Kcall.TheVariants.{Enlarge}
+use Rattle.tr_types.specs.declared.kernel_call.KernAnswer.{KernAnswer}
+use Rattle.tr_types.specs.declared.kernel_call.KernAnswer.TheVariants.{Pages, NoPages}
+use Rattle.tr_types.specs.declared.entry.Entry.{Entry}
+use Rattle.tr_types.specs.declared.entry.Entry.TheVariants as entry
+
+-- the memory, everyone who was ever started, the clock in ticks, and whether an entry has come
+pub record Machine : Type 0 where
+  pub words : List Word
+  pub processes : List ℕ
+  -- each thread with its process
+  pub threads : List (ℕ × ℕ)
+  pub clock : ℕ
+  pub begun : Bool
+
+-- the machine as it opens over an image, all of whose words are durable
+abbrev pub opened : List ℕ → Machine
+opened image = record { words = all_durable image; processes = []; threads = []; clock = 0; begun = false }
+
+-- no address of a word of the memory: outside it, or no multiple of 8
+abbrev pub IsNoAddress : ℕ → ℕ → Type 0
+IsNoAddress count addr = IsAddress count addr → ⊥
+
+-- a load gives the present word
+abbrev pub IsLoaded : Machine → ℕ → Answer → Type 0
+IsLoaded m addr (WordIs x) = IsAddress (length m.words) addr × (x ≡ (word_at m.words addr).present)
+IsLoaded m addr (Fault NotMapped) = IsNoAddress (length m.words) addr
+IsLoaded m addr answer = ⊥
+
+-- a store is done where there is a word
+abbrev pub IsStored : Machine → ℕ → Answer → Type 0
+IsStored m addr Done = IsAddress (length m.words) addr
+IsStored m addr (Fault NotMapped) = IsNoAddress (length m.words) addr
+IsStored m addr answer = ⊥
+
+-- a coffer is enlarged by the least free pages, and is refused exactly where fewer are free than are asked for
+abbrev pub IsEnlarged : Machine → ℕ → KernAnswer → Type 0
+IsEnlarged m count (Pages pages) = (count ≤ length (free_pages m.words)) × (pages ≡ take count (free_pages m.words))
+IsEnlarged m count (NoPages asked free) = (free < count) × (asked ≡ count) × (free ≡ length (free_pages m.words))
+IsEnlarged m count answer = ⊥
+
+abbrev pub IsCalled : Machine → Kcall → Answer → Type 0
+IsCalled m (Enlarge id count) (Kern answer) = IsEnlarged m count answer
+IsCalled m call answer = ⊥
+
+-- the machine may answer an action so
+abbrev pub Answers : Machine → Action → Answer → Type 0
+Answers m (Load addr) answer = IsLoaded m addr answer
+Answers m (Store addr word) answer = IsStored m addr answer
+Answers m (Kernel call) answer = IsCalled m call answer
+Answers m action answer = ⊥
+
+-- the memory after a kernel call that was answered so
+abbrev pub called : Kcall → KernAnswer → List Word → List Word
+called (Enlarge id count) (Pages pages) words = given_to id pages words
+called call answer words = words
+
+-- the memory after an action that was answered so: a refused one changes nothing
+abbrev pub acted : Action → Answer → List Word → List Word
+acted (Store addr word) Done words = store_at addr word words
+acted (Kernel call) (Kern answer) words = called call answer words
+acted action answer words = words
+
+-- the thread was started
+abbrev pub IsThread : Machine → ℕ → Type 0
+IsThread m thread = Contains (map (λ t. t.0) m.threads) thread
+
+-- the entry may come at this machine
+abbrev pub Fits : Machine → Entry → Type 0
+-- the first entry alone, over the new image of that many pages
+Fits m (entry.Mkfs pages) = (m.begun ≡ false) × (present_values m.words ≡ new_image pages)
+-- no number is started twice
+Fits m (entry.Process process cred) = (process < 64) × (Contains m.processes process → ⊥)
+Fits m (entry.Thread thread process) = (thread < 256) × (IsThread m thread → ⊥) × Contains m.processes process
+Fits m (entry.Call thread command) = IsThread m thread
+Fits m (entry.Act thread now mark action answer) = IsThread m thread × (now ≤ m.clock) × Answers m action answer
+Fits m (entry.Reply thread reply) = IsThread m thread
+Fits m e = ⊥
+
+-- the machine after the entry
+abbrev pub moved : Machine → Entry → Machine
+moved m (entry.Process process cred) = record { words = m.words; processes = m.processes ++ process ∷ []; threads = m.threads; clock = m.clock; begun = true }
+moved m (entry.Thread thread process) = record { words = m.words; processes = m.processes; threads = m.threads ++ (thread, process) ∷ []; clock = m.clock; begun = true }
+moved m (entry.Act thread now mark action answer) = record { words = acted action answer m.words; processes = m.processes; threads = m.threads; clock = m.clock; begun = true }
+moved m e = record { words = m.words; processes = m.processes; threads = m.threads; clock = m.clock; begun = true }
