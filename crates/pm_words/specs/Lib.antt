@@ -1,2 +1,4 @@
+pub mod Hash
 pub mod Word
 pub mod Memory
+pub mod View

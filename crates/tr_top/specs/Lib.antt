@@ -4,3 +4,5 @@ pub mod Grammar
 pub mod Along
 -- what the entries of a trace print
 pub mod Text
+-- what a call does
+pub mod Calls

@@ -10,3 +10,7 @@ pub mod KernelView
 pub mod Machine
 -- what the actions of a call are for
 pub mod Marks
+-- the tree that users see, and what commands are answered
+pub mod Tree
+-- one state for a whole trace
+pub mod World

@@ -36,33 +36,34 @@ abbrev pub IsNoAddress : ℕ → ℕ → Type 0
 IsNoAddress count addr = IsAddress count addr → ⊥
 
 -- a load gives the present word
-abbrev pub IsLoaded : Machine → ℕ → Answer → Type 0
-IsLoaded m addr (WordIs x) = IsAddress (length m.words) addr × (x ≡ (word_at m.words addr).present)
-IsLoaded m addr (Fault NotMapped) = IsNoAddress (length m.words) addr
-IsLoaded m addr answer = ⊥
+abbrev pub IsLoaded : List Word → ℕ → Answer → Type 0
+IsLoaded words addr (WordIs x) = IsAddress (length words) addr × (x ≡ (word_at words addr).present)
+IsLoaded words addr (Fault NotMapped) = IsNoAddress (length words) addr
+IsLoaded words addr answer = ⊥
 
 -- a store is done where there is a word
-abbrev pub IsStored : Machine → ℕ → Answer → Type 0
-IsStored m addr Done = IsAddress (length m.words) addr
-IsStored m addr (Fault NotMapped) = IsNoAddress (length m.words) addr
-IsStored m addr answer = ⊥
+abbrev pub IsStored : List Word → ℕ → Answer → Type 0
+IsStored words addr Done = IsAddress (length words) addr
+IsStored words addr (Fault NotMapped) = IsNoAddress (length words) addr
+IsStored words addr answer = ⊥
 
 -- a coffer is enlarged by the least free pages, and is refused exactly where fewer are free than are asked for
-abbrev pub IsEnlarged : Machine → ℕ → KernAnswer → Type 0
-IsEnlarged m count (Pages pages) = (count ≤ length (free_pages m.words)) × (pages ≡ take count (free_pages m.words))
-IsEnlarged m count (NoPages asked free) = (free < count) × (asked ≡ count) × (free ≡ length (free_pages m.words))
-IsEnlarged m count answer = ⊥
+abbrev pub IsEnlarged : List Word → ℕ → KernAnswer → Type 0
+IsEnlarged words count (Pages pages) = (count ≤ length (free_pages words)) × (pages ≡ take count (free_pages words))
+IsEnlarged words count (NoPages asked free) = (free < count) × (asked ≡ count) × (free ≡ length (free_pages words))
+IsEnlarged words count answer = ⊥
 
-abbrev pub IsCalled : Machine → Kcall → Answer → Type 0
-IsCalled m (Enlarge id count) (Kern answer) = IsEnlarged m count answer
-IsCalled m call answer = ⊥
+-- the kernel answers a call so: the root coffer may be enlarged, and no other call is built
+abbrev pub IsCalled : List Word → Kcall → Answer → Type 0
+IsCalled words (Enlarge id count) (Kern answer) = (id ≡ 1) × IsEnlarged words count answer
+IsCalled words call answer = ⊥
 
--- the machine may answer an action so
-abbrev pub Answers : Machine → Action → Answer → Type 0
-Answers m (Load addr) answer = IsLoaded m addr answer
-Answers m (Store addr word) answer = IsStored m addr answer
-Answers m (Kernel call) answer = IsCalled m call answer
-Answers m action answer = ⊥
+-- the machine with this memory may answer an action so
+abbrev pub Answers : List Word → Action → Answer → Type 0
+Answers words (Load addr) answer = IsLoaded words addr answer
+Answers words (Store addr word) answer = IsStored words addr answer
+Answers words (Kernel call) answer = IsCalled words call answer
+Answers words action answer = ⊥
 
 -- the memory after a kernel call that was answered so
 abbrev pub called : Kcall → KernAnswer → List Word → List Word
@@ -87,7 +88,7 @@ Fits m (entry.Mkfs pages) = (m.begun ≡ false) × (present_values m.words ≡ n
 Fits m (entry.Process process cred) = (process < 64) × (Contains m.processes process → ⊥)
 Fits m (entry.Thread thread process) = (thread < 256) × (IsThread m thread → ⊥) × Contains m.processes process
 Fits m (entry.Call thread command) = IsThread m thread
-Fits m (entry.Act thread now mark action answer) = IsThread m thread × (now ≤ m.clock) × Answers m action answer
+Fits m (entry.Act thread now mark action answer) = IsThread m thread × (now ≤ m.clock) × Answers m.words action answer
 Fits m (entry.Reply thread reply) = IsThread m thread
 Fits m e = ⊥
 

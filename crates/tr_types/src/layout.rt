@@ -26,7 +26,7 @@ pub const KIND_FILE: u64 = 1;
 
 /// Words are loaded only at addresses below this one, past the end of every image, so that no sum of
 /// addresses wraps.
-pub const FAR: u64 = 1 << 40;
+pub const FAR: u64 = 1 << 60;
 
 /// The address of a page.
 pub fn page_at(page: u32) -> u64
@@ -37,7 +37,7 @@ pub fn page_at(page: u32) -> u64
 
 /// The address of word `i` of what begins at `start`.
 pub fn word_of(start: u64, i: u64) -> u64
-    requires start_near { start < 2 ^ 41 }
+    requires start_near { start < 2 ^ 61 }
     requires i_near { i < 2 ^ 41 }
     ensures { result ≡ spec.word_of start i }
 {
@@ -119,7 +119,7 @@ pub fn root_page(pages: u32) -> u32
 
 /// The word of a control page that has the address of the first free page of a pool.
 pub fn pool_head(control: u64, pool: u8) -> u64
-    requires { control < 2 ^ 40 }
+    requires { control < 2 ^ 60 }
     ensures { result ≡ spec.pool_head control pool }
 {
     word_of(control, 8 * (u64::from(pool) + 1) + 1)
@@ -127,7 +127,7 @@ pub fn pool_head(control: u64, pool: u8) -> u64
 
 /// The word of a directory page that has the address of its first entry page.
 pub fn first_entry_page(dir: u64) -> u64
-    requires { dir < 2 ^ 40 }
+    requires { dir < 2 ^ 60 }
     ensures { result ≡ spec.first_entry_page dir }
 {
     word_of(dir, 4)
@@ -135,7 +135,7 @@ pub fn first_entry_page(dir: u64) -> u64
 
 /// The word of a directory page that has the address of its first free entry.
 pub fn first_free_entry(dir: u64) -> u64
-    requires { dir < 2 ^ 40 }
+    requires { dir < 2 ^ 60 }
     ensures { result ≡ spec.first_free_entry dir }
 {
     word_of(dir, 5)
@@ -143,7 +143,7 @@ pub fn first_free_entry(dir: u64) -> u64
 
 /// The word of a directory page that has the address of a bucket's first entry.
 pub fn bucket_head(dir: u64, bucket: u8) -> u64
-    requires { dir < 2 ^ 40 }
+    requires { dir < 2 ^ 60 }
     ensures { result ≡ spec.bucket_head dir bucket }
 {
     word_of(dir, 256 + u64::from(bucket))
@@ -151,7 +151,7 @@ pub fn bucket_head(dir: u64, bucket: u8) -> u64
 
 /// The address of entry `i` of an entry page.
 pub fn entry_place(page: u64, i: u64) -> u64
-    requires near { page < 2 ^ 40 }
+    requires near { page < 2 ^ 60 }
     requires place { i < 12 }
     ensures { result ≡ spec.entry_place page i }
 {
@@ -160,7 +160,7 @@ pub fn entry_place(page: u64, i: u64) -> u64
 
 /// The word of an entry that has its target: the address of a file or directory page, or 1.
 pub fn entry_target(entry: u64) -> u64
-    requires { entry < 2 ^ 40 }
+    requires { entry < 2 ^ 60 }
     ensures { result ≡ spec.entry_target entry }
 {
     word_of(entry, 1)
@@ -168,24 +168,23 @@ pub fn entry_target(entry: u64) -> u64
 
 /// The word of an entry that has the length of its name.
 pub fn name_length(entry: u64) -> u64
-    requires { entry < 2 ^ 40 }
+    requires { entry < 2 ^ 60 }
     ensures { result ≡ spec.name_length entry }
 {
     word_of(entry, 2)
 }
 
 /// Word `i` of the name of an entry: eight bytes of it, the first ones lowest.
-pub fn name_word(entry: u64, i: u64) -> u64
-    requires near { entry < 2 ^ 40 }
-    requires place { i < 37 }
+pub fn name_word(entry: u64, i: u32) -> u64
+    requires { entry < 2 ^ 60 }
     ensures { result ≡ spec.name_word entry i }
 {
-    word_of(entry, 3 + i)
+    word_of(entry, 3 + u64::from(i))
 }
 
 /// The word of a file page that has the address of its map page, 0 for an empty file.
 pub fn file_map(file: u64) -> u64
-    requires { file < 2 ^ 40 }
+    requires { file < 2 ^ 60 }
     ensures { result ≡ spec.file_map file }
 {
     word_of(file, 1)

@@ -1,0 +1,3 @@
+pub mod WordLemmas
+mod ViewLemmas
+mod PendingLemmas

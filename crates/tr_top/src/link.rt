@@ -1,0 +1,42 @@
+// Addresses that a call follows.
+ghost use Rattle.std.specs.Prelude.{◌≡◌, ◌<◌, ◌≤◌, ◌^◌};
+
+use tr_types::Answer;
+use tr_types::layout::FAR;
+
+/// The address of an entry, a page or a word: not 0, and so low that sums of addresses don't wrap.
+#[derive(Clone, Copy, Debug, PartialEq, Eq)]
+pub(crate) struct Addr {
+    pub at: u64,
+    ghost some: { 0 < at },
+    ghost near: { at < 2 ^ 60 },
+}
+
+/// Where a word of the image leads, if it is an address of the image or 0.
+#[derive(Clone, Copy, Debug, PartialEq, Eq)]
+pub(crate) enum Link {
+    End,
+    To(Addr),
+    /// To no place of any image.
+    Astray,
+}
+
+impl Link {
+    pub fn of(word: u64) -> Link {
+        if word == 0 {
+            Link::End
+        } else if word < FAR {
+            Link::To(Addr { at: word })
+        } else {
+            Link::Astray
+        }
+    }
+}
+
+/// The word that a load was answered, if it was.
+pub(crate) fn loaded(answer: &Answer) -> Option<u64> {
+    match answer {
+        Answer::Word(word) => Some(*word),
+        _ => None,
+    }
+}

@@ -1,0 +1,114 @@
+// Finding a name in a directory, one load at a time.
+use crate::letters::{begins_with, letters_at};
+use crate::link::{Addr, Link, loaded};
+use tr_types::Answer;
+use tr_types::layout::{bucket_head, bucket_of, entry_target, name_length, name_word};
+
+/// Looks for a name in a directory.
+#[derive(Clone, Copy, Debug)]
+pub(crate) struct Lookup {
+    dir: Addr,
+    asked: Asked,
+}
+
+/// What was asked for last. `head` is the first word of the name's bucket.
+#[derive(Clone, Copy, Debug)]
+enum Asked {
+    Nothing,
+    Head,
+    /// The length of an entry's name.
+    Length { head: u64, entry: Addr },
+    /// Word `i` of the entry's name.
+    Letters { head: u64, entry: Addr, i: u32 },
+    /// The entry's target.
+    Target { entry: Addr },
+    /// The entry behind this one.
+    Next { head: u64, entry: Addr },
+}
+
+/// What a look-up does next.
+#[derive(Clone, Copy, Debug)]
+pub(crate) enum LookStep {
+    Load(u64),
+    /// The name stands, and the word at `from` is its target.
+    Found { target: u64, from: u64 },
+    /// The name doesn't stand. `head` is the first word of its bucket.
+    Missing { head: u64 },
+    /// The word at this address leads to no entry.
+    Damaged(u64),
+}
+
+impl Lookup {
+    pub fn begin(dir: Addr) -> Lookup {
+        Lookup {
+            dir,
+            asked: Asked::Nothing,
+        }
+    }
+
+    /// Goes on with the answer to the last load. The first call has no use for its answer.
+    pub fn next(&mut self, name: &[u8], answer: &Answer) -> LookStep {
+        let head_at = bucket_head(self.dir.at, bucket_of(name));
+        let asked = self.asked;
+        if let Asked::Nothing = asked {
+            self.asked = Asked::Head;
+            return LookStep::Load(head_at);
+        }
+        let Some(word) = loaded(answer) else {
+            return LookStep::Damaged(head_at);
+        };
+        match asked {
+            Asked::Nothing | Asked::Head => self.follow(word, word, head_at),
+            Asked::Length { head, entry } => self.measure(name, head, entry, word),
+            Asked::Letters { head, entry, i } => self.compare(name, head, entry, i, word),
+            Asked::Target { entry } => LookStep::Found {
+                target: word,
+                from: entry_target(entry.at),
+            },
+            Asked::Next { head, entry } => self.follow(head, word, entry.at),
+        }
+    }
+
+    // Goes on to the entry that the word loaded from `from` leads to.
+    fn follow(&mut self, head: u64, word: u64, from: u64) -> LookStep {
+        match Link::of(word) {
+            Link::End => LookStep::Missing { head },
+            Link::To(entry) => {
+                self.asked = Asked::Length { head, entry };
+                LookStep::Load(name_length(entry.at))
+            }
+            Link::Astray => LookStep::Damaged(from),
+        }
+    }
+
+    fn measure(&mut self, name: &[u8], head: u64, entry: Addr, length: u64) -> LookStep {
+        if length == name.len() as u64 {
+            self.letters(name, head, entry, 0)
+        } else {
+            self.pass(head, entry)
+        }
+    }
+
+    fn compare(&mut self, name: &[u8], head: u64, entry: Addr, i: u32, word: u64) -> LookStep {
+        match letters_at(name, i) {
+            Some(letters) if !begins_with(word, letters) => self.pass(head, entry),
+            _ => self.letters(name, head, entry, i.saturating_add(1)),
+        }
+    }
+
+    // Asks for word `i` of the entry's name, or for the target where the name has ended.
+    fn letters(&mut self, name: &[u8], head: u64, entry: Addr, i: u32) -> LookStep {
+        if letters_at(name, i).is_none() {
+            self.asked = Asked::Target { entry };
+            return LookStep::Load(entry_target(entry.at));
+        }
+        self.asked = Asked::Letters { head, entry, i };
+        LookStep::Load(name_word(entry.at, i))
+    }
+
+    // Passes over an entry of another name.
+    fn pass(&mut self, head: u64, entry: Addr) -> LookStep {
+        self.asked = Asked::Next { head, entry };
+        LookStep::Load(entry.at)
+    }
+}
