@@ -1,8 +1,20 @@
 -- which texts are scripts
 pub mod Grammar
+-- what the reader of scripts answers
+pub mod Reading
 -- which traces follow a script
 pub mod Along
 -- what the entries of a trace print
 pub mod Text
+-- how a run ends
+pub mod Status
 -- what a call does
 pub mod Calls
+-- which pages are free
+pub mod FreePages
+-- what a run of a script is
+pub mod Run
+-- what the parts of a run keep
+pub mod Running
+-- what the top call has done
+pub mod Top

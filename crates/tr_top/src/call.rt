@@ -29,9 +29,9 @@ pub(crate) struct Coffer {
 
 /// A running call of a command in the root coffer.
 #[derive(Debug, Drop)]
-pub(crate) struct CallRun {
+pub(crate) struct CallRun<'a> {
     coffer: Coffer,
-    command: Command,
+    command: &'a Command,
     stage: Stage,
 }
 
@@ -84,10 +84,10 @@ enum Next {
     Over(Reply),
 }
 
-impl CallRun {
-    pub fn begin(coffer: Coffer, command: Command) -> CallRun
+impl<'a> CallRun<'a> {
+    pub fn begin(coffer: Coffer, command: &'a Command) -> CallRun<'a>
         ensures coffer { result.coffer ≡ coffer }
-        ensures command { result.command ≡ command }
+        ensures command { result.command.now ≡ command.now }
     {
         CallRun {
             coffer,
@@ -99,14 +99,14 @@ impl CallRun {
     /// Goes on with the answer to the last action. The first call has no use for its answer.
     pub fn next(&mut self, alloc: Global, answer: &Answer) -> Result<CallStep, AllocError>
         ensures coffer { self.new.coffer ≡ self.old.coffer }
-        ensures command { self.new.command ≡ self.old.command }
-        ensures step { IfOk result (IsStepOf self.old.coffer self.old.command) }
+        ensures command { self.new.command.now ≡ self.old.command.now }
+        ensures step { IfOk result (IsStepOf self.old.coffer self.old.command.now) }
     {
         let stage = mem::replace(&mut self.stage, Stage::Over);
         match self.after(alloc, stage, answer)? {
             Next::Act(action, stage) => {
                 self.stage = stage;
-                let mark = mark_of(self.coffer.dir.at, &self.command, &action);
+                let mark = mark_of(self.coffer.dir.at, self.command, &action);
                 Ok(CallStep::Act(mark, action))
             }
             Next::Over(reply) => Ok(CallStep::Over(reply)),
@@ -129,7 +129,7 @@ impl CallRun {
     }
 
     fn path(&self) -> &[u8] {
-        match &self.command {
+        match self.command {
             Command::Create { path, mode: _ } => path.as_bytes(),
             Command::Stat { path } => path.as_bytes(),
         }
@@ -164,7 +164,7 @@ impl CallRun {
     fn found(&self, target: u64, from: u64) -> Next
         ensures { IsNextOf self.now.coffer result }
     {
-        match (&self.command, Link::of(target)) {
+        match (self.command, Link::of(target)) {
             (Command::Create { .. }, _) => Next::Over(Reply::Exists),
             (Command::Stat { .. }, Link::To(target)) => {
                 load(target.at, Stage::Telling(Telling::Kind { target }))
@@ -177,7 +177,7 @@ impl CallRun {
     fn missing(&self, head: u64) -> Next
         ensures { IsNextOf self.now.coffer result }
     {
-        match &self.command {
+        match self.command {
             Command::Create { .. } => load(
                 first_free_entry(self.coffer.dir.at),
                 Stage::Placing(Placing::FreeEntry { head }),

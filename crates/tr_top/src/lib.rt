@@ -6,8 +6,17 @@ mod count;
 mod letters;
 mod link;
 mod lookup;
+mod machine;
 mod mark;
+mod new_image;
 mod plan;
+mod reader;
+mod runner;
 mod script;
+mod status;
+mod text;
+mod top;
 
 pub use script::{Line, Script};
+pub use status::Status;
+pub use top::{Outcome, zofs_run};

@@ -14,3 +14,5 @@ pub mod Marks
 pub mod Tree
 -- one state for a whole trace
 pub mod World
+-- what a trace shows
+pub mod Traces

@@ -1,11 +1,31 @@
 // What a program asks of the file system, and what it is told.
+ghost use Rattle.std.specs.Prelude.{◌≡◌, IfOk};
+
 use crate::{Bytes, Names, Path, Right};
+use std::alloc::{AllocError, Global};
 
 /// A file command.
 #[derive(Debug, Drop)]
 pub enum Command {
     Create { path: Path, mode: u16 },
     Stat { path: Path },
+}
+
+impl Command {
+    /// The same command once more.
+    pub fn copy(&self, alloc: Global) -> Result<Command, AllocError>
+        ensures { IfOk result (λ command. command ≡ self.now) }
+    {
+        match self {
+            Command::Create { path, mode } => Ok(Command::Create {
+                path: path.copy(alloc)?,
+                mode: *mode,
+            }),
+            Command::Stat { path } => Ok(Command::Stat {
+                path: path.copy(alloc)?,
+            }),
+        }
+    }
 }
 
 /// What stands at a path.

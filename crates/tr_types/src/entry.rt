@@ -71,24 +71,72 @@ pub type CofferList = Items<CofferRow>;
 pub enum Entry {
     /// A new image of so many pages.
     Mkfs(u32),
-    Process { process: u8, cred: Cred },
-    Thread { thread: u16, process: u8 },
+    Process {
+        process: u8,
+        cred: Cred,
+    },
+    Thread {
+        thread: u16,
+        process: u8,
+    },
     Tick(u32),
-    Call { thread: u16, command: Command },
-    Act { thread: u16, now: u32, mark: Mark, action: Action, answer: Answer },
-    Reply { thread: u16, reply: Reply },
-    Stray { thread: u16, addr: u64, word: u64, answer: Answer },
-    Wild { thread: u16, now: u32, action: Action, answer: Answer },
+    Call {
+        thread: u16,
+        command: Command,
+    },
+    Act {
+        thread: u16,
+        now: u32,
+        mark: Mark,
+        action: Action,
+        answer: Answer,
+    },
+    Reply {
+        thread: u16,
+        reply: Reply,
+    },
+    Stray {
+        thread: u16,
+        addr: u64,
+        word: u64,
+        answer: Answer,
+    },
+    Wild {
+        thread: u16,
+        now: u32,
+        action: Action,
+        answer: Answer,
+    },
     Corrupt(u8),
     Kill(u8),
-    Crash { pick: Pick },
-    CrashIn { thread: u16, now: u32, call: Boxed<Kcall>, k: u32, pick: Pick },
-    Recovery { action: Action },
-    Recovered { ready: u32, quarantined: u32 },
-    Lost { path: Path },
+    Crash {
+        pick: Pick,
+    },
+    CrashIn {
+        thread: u16,
+        now: u32,
+        call: Boxed<Kcall>,
+        k: u32,
+        pick: Pick,
+    },
+    Recovery {
+        action: Action,
+    },
+    Recovered {
+        ready: u32,
+        quarantined: u32,
+    },
+    Lost {
+        path: Path,
+    },
     /// The line's number, counted from 1 over the lines that the script keeps.
-    Skip { line: u32, why: Why },
-    Quarantine { path: Path },
+    Skip {
+        line: u32,
+        why: Why,
+    },
+    Quarantine {
+        path: Path,
+    },
     Coffers(CofferList),
 }
 
@@ -108,6 +156,9 @@ impl Model for Trace {
 }
 
 impl Trace {
+    ghost use Rattle.std.specs.Option.{option_copied};
+    ghost use Rattle.tr_types.specs.Traces.{last_answer};
+
     pub fn new(alloc: Global) -> Trace
         ensures { result ≡ [] }
     {
@@ -126,6 +177,16 @@ impl Trace {
         ensures { result.now ≡ self.now }
     {
         &self.entries
+    }
+
+    /// What the last entry's action was answered, where it is an action of a call.
+    pub fn last_answer(&self) -> Option<&Answer>
+        ensures { option_copied result ≡ last_answer self.now }
+    {
+        match self.entries.last() {
+            Some(Entry::Act { answer, .. }) => Some(answer),
+            _ => None,
+        }
     }
 
     /// Puts an entry at the end.

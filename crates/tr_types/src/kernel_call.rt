@@ -5,17 +5,64 @@ use crate::{Pages, Path, Perm, Right};
 /// with its word. Both addresses lie in pages of the parent.
 #[derive(Debug, Drop)]
 pub enum Kcall {
-    Find { path: Path, also: Option<Path> },
-    Map { path: Path, right: Right, exclusive: bool },
-    Unmap { id: u16 },
-    New { parent: u16, path: Path, kind: u8, mode: u16, link: (u64, u64, u64), guard: (u64, u64) },
-    Delete { id: u16, parent: u16, link: (u64, u64, u64), guard: (u64, u64) },
-    Enlarge { id: u16, count: u32 },
-    Shrink { id: u16, pages: Pages, guard: (u64, u64) },
-    Split { id: u16, path: Path, pages: Pages, mode: u16, link: (u64, u64, u64), guard: (u64, u64) },
-    Merge { child: u16, parent: u16, pages: Pages, link: (u64, u64, u64), guard: (u64, u64) },
-    Mode { id: u16, mode: u16 },
-    Recover { id: u16, ready: bool },
+    Find {
+        path: Path,
+        also: Option<Path>,
+    },
+    Map {
+        path: Path,
+        right: Right,
+        exclusive: bool,
+    },
+    Unmap {
+        id: u16,
+    },
+    New {
+        parent: u16,
+        path: Path,
+        kind: u8,
+        mode: u16,
+        link: (u64, u64, u64),
+        guard: (u64, u64),
+    },
+    Delete {
+        id: u16,
+        parent: u16,
+        link: (u64, u64, u64),
+        guard: (u64, u64),
+    },
+    Enlarge {
+        id: u16,
+        count: u32,
+    },
+    Shrink {
+        id: u16,
+        pages: Pages,
+        guard: (u64, u64),
+    },
+    Split {
+        id: u16,
+        path: Path,
+        pages: Pages,
+        mode: u16,
+        link: (u64, u64, u64),
+        guard: (u64, u64),
+    },
+    Merge {
+        child: u16,
+        parent: u16,
+        pages: Pages,
+        link: (u64, u64, u64),
+        guard: (u64, u64),
+    },
+    Mode {
+        id: u16,
+        mode: u16,
+    },
+    Recover {
+        id: u16,
+        ready: bool,
+    },
 }
 
 /// The coffer of a path: whether the path is the coffer's own, and the length of the coffer's path in bytes.
@@ -54,23 +101,49 @@ pub struct Holder {
 pub enum KernAnswer {
     Done,
     Same,
-    Found { first: FoundAt, second: Option<FoundAt> },
+    Found {
+        first: FoundAt,
+        second: Option<FoundAt>,
+    },
     Mapped(Mapped),
     Made(u16),
     Pages(Pages),
     NotHeld,
     BadPath,
-    Denied { right: Right, id: u16, path_len: u16 },
-    Quarantined { id: u16, path_len: u16 },
-    InUse { thread: u16, id: u16, path_len: u16 },
-    NoKey { id: u16, path_len: u16 },
+    Denied {
+        right: Right,
+        id: u16,
+        path_len: u16,
+    },
+    Quarantined {
+        id: u16,
+        path_len: u16,
+    },
+    InUse {
+        thread: u16,
+        id: u16,
+        path_len: u16,
+    },
+    NoKey {
+        id: u16,
+        path_len: u16,
+    },
     /// A page that isn't the coffer's, by its number.
     NotYours(u64),
-    GuardFailed { addr: u64, word: u64 },
-    LinkDiffers { addr: u64, word: u64 },
+    GuardFailed {
+        addr: u64,
+        word: u64,
+    },
+    LinkDiffers {
+        addr: u64,
+        word: u64,
+    },
     Taken,
     TooMany,
-    NoPages { asked: u32, free: u32 },
+    NoPages {
+        asked: u32,
+        free: u32,
+    },
     NoCoffer,
     NotEmptyList,
     BadCount,

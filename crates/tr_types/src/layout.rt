@@ -13,6 +13,7 @@ pub const WORD_BYTES: u64 = 8;
 
 /// The least and the greatest number of pages of an image.
 pub const MIN_PAGES: u32 = 64;
+
 pub const MAX_PAGES: u32 = 16384;
 
 /// Buckets of a directory.

@@ -1,7 +1,8 @@
 // Paths, names and the lists that stand in calls, answers and replies.
-ghost use Rattle.std.specs.Prelude.{◌≡◌};
+ghost use Rattle.std.specs.Prelude.{◌≡◌, IfOk};
 
 use sqlite_items::Items;
+use std::alloc::{AllocError, Global};
 use std::marker::Model;
 
 /// Bytes of a file.
@@ -39,6 +40,15 @@ impl Path {
         ensures { result.now ≡ self.now }
     {
         &self.bytes
+    }
+
+    /// The same path once more.
+    pub fn copy(&self, alloc: Global) -> Result<Path, AllocError>
+        ensures { IfOk result (λ path. path ≡ self.now) }
+    {
+        Ok(Path {
+            bytes: Vec::from_slice(alloc, &self.bytes)?,
+        })
     }
 }
 

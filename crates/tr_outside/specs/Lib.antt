@@ -1,0 +1,6 @@
+-- Definitions that the contracts cite.
+pub mod Adapter
+pub mod Causes
+pub mod ImageBytes
+pub mod Memory
+pub mod Whole

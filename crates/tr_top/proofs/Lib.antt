@@ -1,0 +1,20 @@
+-- the lines of a text and the words of a line, at their ends
+mod PieceLemmas
+-- words that spell a number, and lines of one spelling
+mod SpellingLemmas
+-- what a line can't be
+mod LineLemmas
+-- a text is read line by line
+mod ReadingLemmas
+-- the words of a new image, one more at a time
+mod NewImageLemmas
+-- what a text keeps while more is appended
+mod TextLemmas
+-- which pages are free
+mod FreePages
+-- a run with one more entry
+mod RunLemmas
+-- what holds while a call runs
+mod CallRuns
+-- what holds between two lines
+mod LineRuns

@@ -1,0 +1,2 @@
+-- laws of folds along a list of entries
+pub mod FoldLemmas
