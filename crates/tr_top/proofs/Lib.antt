@@ -18,3 +18,5 @@ mod RunLemmas
 mod CallRuns
 -- what holds between two lines
 mod LineRuns
+-- how a run ends
+mod Endings

@@ -77,7 +77,7 @@ line_done lines coffer i old trace new words next taken now then before after la
   left = passes.left ∙ ap rest (runs.left ∙ drop_more lines i line lt);
   running = passes.running;
   dir = λ _. passes.dir;
-  like = subst (IsLike lines (world_after lines new).machine) (sym (ap (state_after declared nothing_declared) (take_more lines i line lt) ∙ state_after_more declared nothing_declared (take i lines) (get_or lines i line)) ) (subst (λ l. IsLike lines (world_after lines new).machine (declared (declared_by lines i) l)) at (passes.like (declared_by lines i) runs.like));
+  like = subst (IsLike lines (world_after lines new).machine) (sym (ap (state_after declared nothing_declared) (take_more lines i line lt) ∙ state_after_more declared nothing_declared (take i lines) (get_or lines i line))) (subst (λ l. IsLike lines (world_after lines new).machine (declared (declared_by lines i) l)) at (passes.like (declared_by lines i) runs.like));
   goes = record {
     run = goes.run;
     told = λ start a. goes.told start (runs.goes.told start a);

@@ -18,3 +18,5 @@ pub mod Run
 pub mod Running
 -- what the top call has done
 pub mod Top
+-- what the parts of the top call answer
+pub mod Ending

@@ -317,7 +317,9 @@ impl<'a> Runner<'a> {
     pub fn into_trace(self) -> Trace
         ensures { result ≡ self.entry.log.trace }
     {
-        self.log.trace
+        let Runner { log, .. } = self;
+        let Log { trace, text: _ } = log;
+        trace
     }
 }
 

@@ -2,14 +2,14 @@
 //! read and `zofs.new` the one that is saved.
 #![tactic(auto)]
 
-use std::env;
-use std::io;
 use std::process::ExitCode;
+use std::{env, io};
 use tr_outside::{FileSink, FileSource, StdSink, StdSource};
 use tr_top::{Status, zofs_run};
 
 /// The image that is read, and the one that is saved.
 const IMAGE: &str = "zofs.img";
+
 const SAVED: &str = "zofs.new";
 
 fn main(rt: HostRuntime) -> io::Result<ExitCode> {
