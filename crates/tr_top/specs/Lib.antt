@@ -10,6 +10,10 @@ pub mod Text
 pub mod Status
 -- what a call does
 pub mod Calls
+-- how the words of the root coffer lie
+pub mod Laid
+-- the stores of a plan
+pub mod Plans
 -- which pages are free
 pub mod FreePages
 -- what a run of a script is

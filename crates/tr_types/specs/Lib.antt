@@ -12,6 +12,8 @@ pub mod Machine
 pub mod Marks
 -- the tree that users see, and what commands are answered
 pub mod Tree
+-- what the words of an image denote
+pub mod Denotes
 -- one state for a whole trace
 pub mod World
 -- what a trace shows

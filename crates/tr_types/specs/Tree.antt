@@ -1,6 +1,6 @@
 -- The file system as its users see it: a tree of names, and what a command is answered. All that stands now lies in
 -- the root coffer, whose permission is uid 0, gid 0, mode 666, so that no one is refused.
-use Rattle.std.specs.Prelude.{ℕ, ◌+◌, List, [], ◌∷◌, ◌++◌, length, filter, Bool, not, Option, Some, None, is_some, if◌then◌else◌, ◌==◌, ◌&&◌, nat_eq}
+use Rattle.std.specs.Prelude.{◌≡◌, ℕ, ◌+◌, List, [], ◌∷◌, ◌++◌, length, filter, Bool, not, Option, Some, None, is_some, if◌then◌else◌, ◌==◌, ◌&&◌, nat_eq}
 use Rattle.std.specs.List.{starts_with}
 use Rattle.std.specs.Cmp.Lexicographic.{pointwise}
 use Rattle.tr_types.specs.declared.command.Command.{Command}
@@ -63,3 +63,8 @@ tree_after tree (Create path mode) =
     if is_some (node_at tree (names_of path)) then tree
     else tree ++ record { names = names_of path; node = FileOf [] } ∷ []
 tree_after tree (Stat path) = tree
+
+-- the command makes a new file here
+abbrev pub IsChange : List Member → Command → Type 0
+IsChange tree (Create path mode) = node_at tree (names_of path) ≡ None
+IsChange tree (Stat path) = ⊥

@@ -1,10 +1,16 @@
 -- One state for a whole trace: the machine, the tree that its users see, what each thread's call is at, and whether
 -- the coffer is lost. An entry moves it by a total function (`stepped`).
-use Rattle.std.specs.Prelude.{ℕ, List, [], ◌∷◌, Bool, false, Option, Some, None, if◌then◌else◌, ◌==◌}
+use Rattle.std.specs.Prelude.{◌≡◌, ℕ, ◌≤◌, List, Bool, true, false, Option, Some, None, if◌then◌else◌, ◌==◌}
 use Rattle.tr_types.specs.Machine.{Machine, opened, moved, Fits}
-use Rattle.tr_types.specs.Tree.{Member, new_tree, reply_to, tree_after}
+use Rattle.tr_types.specs.Tree.{Member, new_tree, reply_to, tree_after, IsChange}
 use Rattle.tr_types.specs.declared.action.Answer.{Answer}
-use Rattle.tr_types.specs.declared.action.Answer.TheVariants.{Kern}
+use Rattle.tr_types.specs.declared.action.Answer.TheVariants.{Word as WordIs, Done, Kern}
+use Rattle.tr_types.specs.declared.action.Action.{Action}
+use Rattle.tr_types.specs.declared.action.Action.TheVariants.{Load, Kernel}
+use Rattle.pm_words.specs.Word.{Word}
+use Rattle.tr_types.specs.Layout.{page_at, root_control, pool_head}
+use Rattle.tr_types.specs.KernelView.{pages_of}
+use Rattle.tr_types.specs.declared.command.Reply.TheVariants.{NoSpace}
 use Rattle.tr_types.specs.declared.command.Command.{Command}
 use Rattle.tr_types.specs.declared.command.Reply.{Reply}
 use Rattle.tr_types.specs.declared.entry.Entry.{Entry}
@@ -18,11 +24,11 @@ pub record Shortage : Type 0 where
   pub asked : ℕ
   pub free : ℕ
 
--- What a thread's call is at: none runs; one runs, and may have been refused pages; its change has come about, and
--- this is its reply.
+-- What a thread's call is at: none runs; one runs, whose last load of its pool's head may have shown no page, and
+-- which may have been refused pages; its change has come about, and this is its reply.
 pub data Phase : Type 0 where
   Idle : Phase
-  Runs : (command : Command) (refused : Option Shortage) → Phase
+  Runs : (command : Command) (drained : Bool) (refused : Option Shortage) → Phase
   Committed : (reply : Reply) → Phase
 
 pub record World : Type 0 where
@@ -40,35 +46,49 @@ world_of image = record { machine = opened image; tree = new_tree; phases = λ _
 abbrev pub put : (ℕ → Phase) → ℕ → Phase → ℕ → Phase
 put phases thread phase t = if t == thread then phase else phases t
 
--- the phase of a call after an action that is no commit: an Enlarge may have been refused
-abbrev pub told : Phase → Answer → Phase
-told (Runs command refused) (Kern (NoPages asked free)) = Runs command (Some (record { asked = asked; free = free }))
-told phase answer = phase
+-- A load of the head of the root coffer's pool, the word at `pool`, shows whether the pool is empty.
+abbrev pub drained_after : ℕ → Bool → Action → Answer → Bool
+drained_after pool drained (Load addr) (WordIs word) = if addr == pool then word == 0 else drained
+drained_after pool drained action answer = drained
+
+-- an Enlarge that was refused
+abbrev pub refused_after : Option Shortage → Answer → Option Shortage
+refused_after refused (Kern (NoPages asked free)) = Some (record { asked = asked; free = free })
+refused_after refused answer = refused
+
+-- the phase of a call after an action that is no commit
+abbrev pub told : ℕ → Phase → Action → Answer → Phase
+told pool (Runs command drained refused) action answer = Runs command (drained_after pool drained action answer) (refused_after refused answer)
+told pool phase action answer = phase
 
 -- a commit is the point of its call: the tree changes there, and the reply is decided
 abbrev pub committed : List Member → Phase → Phase
-committed tree (Runs command refused) = Committed (reply_to tree command)
+committed tree (Runs command drained refused) = Committed (reply_to tree command)
 committed tree phase = phase
 
 abbrev pub grown : List Member → Phase → List Member
-grown tree (Runs command refused) = tree_after tree command
+grown tree (Runs command drained refused) = tree_after tree command
 grown tree phase = tree
 
-abbrev pub phase_after : List Member → Mark → Answer → Phase → Phase
-phase_after tree Commit answer phase = committed tree phase
-phase_after tree mark answer phase = told phase answer
+abbrev pub phase_after : ℕ → List Member → Mark → Action → Answer → Phase → Phase
+phase_after pool tree Commit action answer phase = committed tree phase
+phase_after pool tree mark action answer phase = told pool phase action answer
 
 abbrev pub changed : Mark → List Member → Phase → List Member
 changed Commit tree phase = grown tree phase
 changed mark tree phase = tree
 
+-- the head of the root coffer's pool
+abbrev pub pool_of : List Word → ℕ
+pool_of words = pool_head (page_at (root_control (pages_of words))) 0
+
 -- the world after an entry
 abbrev pub stepped : World → Entry → World
-stepped w (entry.Call thread command) = record { machine = moved w.machine (entry.Call thread command); tree = w.tree; phases = put w.phases thread (Runs command None); lost = w.lost }
+stepped w (entry.Call thread command) = record { machine = moved w.machine (entry.Call thread command); tree = w.tree; phases = put w.phases thread (Runs command false None); lost = w.lost }
 stepped w (entry.Act thread now mark action answer) = record {
   machine = moved w.machine (entry.Act thread now mark action answer);
   tree = changed mark w.tree (w.phases thread);
-  phases = put w.phases thread (phase_after w.tree mark answer (w.phases thread));
+  phases = put w.phases thread (phase_after (pool_of w.machine.words) w.tree mark action answer (w.phases thread));
   lost = w.lost;
 }
 stepped w (entry.Reply thread reply) = record { machine = moved w.machine (entry.Reply thread reply); tree = w.tree; phases = put w.phases thread Idle; lost = w.lost }
@@ -77,3 +97,44 @@ stepped w e = record { machine = moved w.machine e; tree = w.tree; phases = w.ph
 -- the machine allows the entry
 abbrev pub MayCome : World → Entry → Type 0
 MayCome w e = Fits w.machine e
+
+-- What may be legal: each reply is what the tree answers at its point. A change's point is its commit; every other
+-- reply's is the reply itself.
+
+-- a commit is of a call that runs, was refused nothing, and whose change succeeds; it is done
+abbrev pub MayCommit : List Member → Phase → Answer → Type 0
+MayCommit tree (Runs command drained None) Done = IsChange tree command
+MayCommit tree phase answer = ⊥
+
+-- any other action is of a call that runs, and that asks for pages only after its pool showed none
+abbrev pub MayAct : Phase → Action → Type 0
+MayAct Idle action = ⊥
+MayAct (Runs command drained refused) (Kernel call) = (drained ≡ true) × (refused ≡ None)
+MayAct (Runs command drained refused) action = Unit {0}
+MayAct (Committed reply) action = Unit {0}
+
+abbrev pub IsLegalAct : List Member → Phase → Mark → Action → Answer → Type 0
+IsLegalAct tree phase Commit action answer = MayCommit tree phase answer
+IsLegalAct tree phase mark action answer = MayAct phase action
+
+-- What a call without a commit may reply: where it was refused pages, that there is no space for them, which it asked
+-- for in a change that would succeed; else what the tree answers, where that changes nothing.
+abbrev pub MayTell : List Member → Command → Option Shortage → Reply → Type 0
+MayTell tree command (Some short) reply = (reply ≡ NoSpace short.asked short.free) × (short.asked ≤ 2) × IsChange tree command
+MayTell tree command None reply = (reply ≡ reply_to tree command) × (tree_after tree command ≡ tree)
+
+abbrev pub MayReply : List Member → Phase → Reply → Type 0
+MayReply tree Idle reply = ⊥
+MayReply tree (Runs command drained refused) reply = MayTell tree command refused reply
+MayReply tree (Committed made) reply = reply ≡ made
+
+abbrev pub MayBegin : Phase → Type 0
+MayBegin Idle = Unit {0}
+MayBegin phase = ⊥
+
+-- the entry is legal in this world
+abbrev pub IsLegal : World → Entry → Type 0
+IsLegal w (entry.Call thread command) = MayBegin (w.phases thread)
+IsLegal w (entry.Act thread now mark action answer) = IsLegalAct w.tree (w.phases thread) mark action answer
+IsLegal w (entry.Reply thread reply) = MayReply w.tree (w.phases thread) reply
+IsLegal w e = Unit {0}
