@@ -14,6 +14,10 @@ pub mod Calls
 pub mod Laid
 -- the stores of a plan
 pub mod Plans
+-- what a look-up and a count know
+pub mod Looking
+-- what a call knows
+pub mod Knows
 -- which pages are free
 pub mod FreePages
 -- what a run of a script is

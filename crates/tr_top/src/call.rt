@@ -1,6 +1,10 @@
 // One call: a step machine that gives one action at a time and is told the answer.
 ghost use Rattle.std.specs.Prelude.{◌≡◌, IfOk};
 ghost use Rattle.tr_top.specs.Calls.{IsStepOf, IsNextOf};
+ghost use Rattle.tr_top.specs.Knows.{StepsFrom, AfterKnowing, StageKnows, BeginKnows, FindKnows, MissKnows, PlaceKnows, AskKnows, FillKnows, PoolKnows, RunKnows, path_of, name_of};
+ghost use Rattle.tr_types.specs.Layout.{pool_head};
+ghost use Rattle.tr_types.specs.declared.command.Command.{Command};
+ghost use Rattle.tr_top.specs.declared.call.Stage.TheVariants as stage;
 ghost use Rattle.tr_top.specs.declared.call.Coffer.{Coffer};
 
 use crate::count::{Count, CountStep};
@@ -88,6 +92,7 @@ impl<'a> CallRun<'a> {
     pub fn begin(coffer: Coffer, command: &'a Command) -> CallRun<'a>
         ensures coffer { result.coffer ≡ coffer }
         ensures command { result.command.now ≡ command.now }
+        ensures stage { result.stage ≡ Stage.Begin }
     {
         CallRun {
             coffer,
@@ -101,6 +106,7 @@ impl<'a> CallRun<'a> {
         ensures coffer { self.new.coffer ≡ self.old.coffer }
         ensures command { self.new.command.now ≡ self.old.command.now }
         ensures step { IfOk result (IsStepOf self.old.coffer self.old.command.now) }
+        ensures gives { IfOk result (StepsFrom self.old answer.now self.new) }
     {
         let stage = mem::replace(&mut self.stage, Stage::Over);
         match self.after(alloc, stage, answer)? {
@@ -114,7 +120,9 @@ impl<'a> CallRun<'a> {
     }
 
     fn after(&self, alloc: Global, stage: Stage, answer: &Answer) -> Result<Next, AllocError>
-        ensures { IfOk result (IsNextOf self.now.coffer) }
+        ensures allowed { IfOk result (IsNextOf self.now.coffer) }
+        ensures gives { IfOk result (AfterKnowing self.now.coffer self.now.command.now
+            (StageKnows self.now.coffer self.now.command.now stage answer.now)) }
     {
         match stage {
             Stage::Begin => Ok(self.first()),
@@ -128,19 +136,25 @@ impl<'a> CallRun<'a> {
         }
     }
 
-    fn path(&self) -> &[u8] {
+    fn path(&self) -> &[u8]
+        ensures { result.now ≡ path_of self.now.command.now }
+    {
         match self.command {
             Command::Create { path, mode: _ } => path.as_bytes(),
             Command::Stat { path } => path.as_bytes(),
         }
     }
 
-    fn name(&self) -> &[u8] {
+    fn name(&self) -> &[u8]
+        ensures { result.now ≡ name_of self.now.command.now }
+    {
         name_in_root(self.path())
     }
 
     fn first(&self) -> Next
-        ensures { IsNextOf self.now.coffer result }
+        ensures allowed { IsNextOf self.now.coffer result }
+        ensures gives { AfterKnowing self.now.coffer self.now.command.now
+            (BeginKnows self.now.coffer self.now.command.now) result }
     {
         if self.name().is_empty() {
             count_names(Count::begin(self.coffer.dir), &Answer::Done)
@@ -150,7 +164,9 @@ impl<'a> CallRun<'a> {
     }
 
     fn look(&self, mut look: Lookup, answer: &Answer) -> Next
-        ensures { IsNextOf self.now.coffer result }
+        ensures allowed { IsNextOf self.now.coffer result }
+        ensures gives { AfterKnowing self.now.coffer self.now.command.now
+            (StageKnows self.now.coffer self.now.command.now (stage.Looking look) answer.now) result }
     {
         match look.next(self.name(), answer) {
             LookStep::Load(addr) => load(addr, Stage::Looking(look)),
@@ -162,7 +178,9 @@ impl<'a> CallRun<'a> {
 
     // The name stands, and the word at `from` is its target.
     fn found(&self, target: u64, from: u64) -> Next
-        ensures { IsNextOf self.now.coffer result }
+        ensures allowed { IsNextOf self.now.coffer result }
+        ensures gives { AfterKnowing self.now.coffer self.now.command.now
+            (FindKnows self.now.coffer self.now.command.now target) result }
     {
         match (self.command, Link::of(target)) {
             (Command::Create { .. }, _) => Next::Over(Reply::Exists),
@@ -175,7 +193,9 @@ impl<'a> CallRun<'a> {
 
     // The name doesn't stand. `head` is the first word of its bucket.
     fn missing(&self, head: u64) -> Next
-        ensures { IsNextOf self.now.coffer result }
+        ensures allowed { IsNextOf self.now.coffer result }
+        ensures gives { AfterKnowing self.now.coffer self.now.command.now
+            (MissKnows self.now.coffer self.now.command.now head) result }
     {
         match self.command {
             Command::Create { .. } => load(
@@ -187,7 +207,9 @@ impl<'a> CallRun<'a> {
     }
 
     fn place(&self, alloc: Global, placing: Placing, answer: &Answer) -> Result<Next, AllocError>
-        ensures { IfOk result (IsNextOf self.now.coffer) }
+        ensures allowed { IfOk result (IsNextOf self.now.coffer) }
+        ensures gives { IfOk result (AfterKnowing self.now.coffer self.now.command.now
+            (StageKnows self.now.coffer self.now.command.now (stage.Placing placing) answer.now)) }
     {
         let dir = self.coffer.dir.at;
         let Some(word) = loaded(answer) else {
@@ -208,7 +230,9 @@ impl<'a> CallRun<'a> {
 
     // The directory's first free entry is known: there is one, or an entry page is needed.
     fn free_entry(&self, head: u64, word: u64) -> Next
-        ensures { IsNextOf self.now.coffer result }
+        ensures allowed { IsNextOf self.now.coffer result }
+        ensures gives { AfterKnowing self.now.coffer self.now.command.now
+            (PlaceKnows self.now.coffer self.now.command.now head word) result }
     {
         let dir = self.coffer.dir.at;
         match Link::of(word) {
@@ -222,12 +246,16 @@ impl<'a> CallRun<'a> {
     }
 
     // The word that has the address of the pool's first free page.
-    fn pool(&self) -> u64 {
+    fn pool(&self) -> u64
+        ensures { result ≡ pool_head self.now.coffer.control.at 0 }
+    {
         pool_head(self.coffer.control.at, 0)
     }
 
     fn ask_pool(&self, head: u64, spot: Spot) -> Next
-        ensures { IsNextOf self.now.coffer result }
+        ensures allowed { IsNextOf self.now.coffer result }
+        ensures gives { AfterKnowing self.now.coffer self.now.command.now
+            (AskKnows self.now.coffer self.now.command.now head spot) result }
     {
         load(self.pool(), Stage::Placing(Placing::Pool { head, spot }))
     }
@@ -240,7 +268,9 @@ impl<'a> CallRun<'a> {
         spot: Spot,
         answer: &Answer,
     ) -> Result<Next, AllocError>
-        ensures { IfOk result (IsNextOf self.now.coffer) }
+        ensures allowed { IfOk result (IsNextOf self.now.coffer) }
+        ensures gives { IfOk result (AfterKnowing self.now.coffer self.now.command.now
+            (StageKnows self.now.coffer self.now.command.now (stage.Drawing head spot) answer.now)) }
     {
         let Answer::Kern(answer) = answer else {
             return Ok(damaged(self.pool()));
@@ -257,7 +287,9 @@ impl<'a> CallRun<'a> {
 
     // The pages are drawn: makes the plan and gives its first store.
     fn fill(&self, alloc: Global, head: u64, spot: Spot, pages: &[u32]) -> Result<Next, AllocError>
-        ensures { IfOk result (IsNextOf self.now.coffer) }
+        ensures allowed { IfOk result (IsNextOf self.now.coffer) }
+        ensures gives { IfOk result (AfterKnowing self.now.coffer self.now.command.now
+            (FillKnows self.now.coffer self.now.command.now head spot pages.now)) }
     {
         let bucket = Bucket {
             dir: self.coffer.dir,
@@ -278,7 +310,9 @@ impl<'a> CallRun<'a> {
 
     // The store to the address `at` was answered.
     fn store(&self, run: PlanRun, at: u64, answer: &Answer) -> Next
-        ensures { IsNextOf self.now.coffer result }
+        ensures allowed { IsNextOf self.now.coffer result }
+        ensures gives { AfterKnowing self.now.coffer self.now.command.now
+            (StageKnows self.now.coffer self.now.command.now (stage.Storing run at) answer.now) result }
     {
         match answer {
             Answer::Done => self.give_store(run),
@@ -288,7 +322,9 @@ impl<'a> CallRun<'a> {
 
     // A call stores nothing below its coffer's control page: those pages are the kernel's.
     fn give_store(&self, mut run: PlanRun) -> Next
-        ensures { IsNextOf self.now.coffer result }
+        ensures allowed { IsNextOf self.now.coffer result }
+        ensures gives { AfterKnowing self.now.coffer self.now.command.now
+            (RunKnows self.now.coffer self.now.command.now run) result }
     {
         match run.next() {
             Some((at, _)) if at < self.coffer.control.at => damaged(at),
@@ -311,7 +347,9 @@ fn damaged(addr: u64) -> Next
 }
 
 fn count_names(mut count: Count, answer: &Answer) -> Next
-    ensures { (coffer : Coffer) → IsNextOf coffer result }
+    ensures allowed { (coffer : Coffer) → IsNextOf coffer result }
+    ensures gives { (coffer : Coffer) (command : Command) →
+        AfterKnowing coffer command (StageKnows coffer command (stage.Counting count) answer.now) result }
 {
     match count.next(answer) {
         CountStep::Load(addr) => load(addr, Stage::Counting(count)),
@@ -321,7 +359,9 @@ fn count_names(mut count: Count, answer: &Answer) -> Next
 }
 
 fn tell(telling: Telling, answer: &Answer) -> Next
-    ensures { (coffer : Coffer) → IsNextOf coffer result }
+    ensures allowed { (coffer : Coffer) → IsNextOf coffer result }
+    ensures gives { (coffer : Coffer) (command : Command) →
+        AfterKnowing coffer command (StageKnows coffer command (stage.Telling telling) answer.now) result }
 {
     match (telling, loaded(answer)) {
         (Telling::Kind { target }, Some(KIND_FILE)) => {
@@ -337,7 +377,9 @@ fn tell(telling: Telling, answer: &Answer) -> Next
 
 // Asks the kernel for the pages of a new file whose entry stands at this spot.
 fn ask_pages(alloc: Global, head: u64, spot: Spot) -> Result<Next, AllocError>
-    ensures { IfOk result (λ next. (coffer : Coffer) → IsNextOf coffer next) }
+    ensures allowed { IfOk result (λ next. (coffer : Coffer) → IsNextOf coffer next) }
+    ensures gives { IfOk result (λ next. (coffer : Coffer) (command : Command) →
+        AfterKnowing coffer command (PoolKnows coffer command head spot) next) }
 {
     let enlarge = Kcall::Enlarge {
         id: ROOT_COFFER,
