@@ -20,3 +20,7 @@ mod CallRuns
 mod LineRuns
 -- how a run ends
 mod Endings
+-- the names of a path of one name
+mod NameLaws
+-- what stands in the tree of some files
+mod TreeLaws
