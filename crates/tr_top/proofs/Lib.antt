@@ -24,3 +24,5 @@ mod Endings
 mod NameLaws
 -- what stands in the tree of some files
 mod TreeLaws
+-- words that are built of files denote their tree
+mod DenoteLaws
