@@ -62,28 +62,28 @@ first_inside words view pages first same free some = let count = free_count word
 
 -- An owner word is a word of the memory, and each page has its own.
 
-owner_address : (count pages page : ℕ) → IsPages count pages → page < pages → IsAddress count (owner_word pages page)
+pub owner_address : (count pages page : ℕ) → IsPages count pages → page < pages → IsAddress count (owner_word pages page)
 owner_address count pages page size lt = record { aligned = omega arith; inside = let whole = size.whole in let least = size.least in omega arith }
 
-owner_apart : (pages page other : ℕ) → page ≢ other → owner_word pages page ≢ owner_word pages other
+pub owner_apart : (pages page other : ℕ) → page ≢ other → owner_word pages page ≢ owner_word pages other
 owner_apart pages page other ne same = ne (omega arith)
 
 -- whose a page is, where the number of pages is known
-owner_is : (words : List Word) (pages page : ℕ) → IsPages (length words) pages → owner_of words page ≡ (word_at words (owner_word pages page)).present
+pub owner_is : (words : List Word) (pages page : ℕ) → IsPages (length words) pages → owner_of words page ≡ (word_at words (owner_word pages page)).present
 owner_is words pages page size = ap (λ (n : ℕ). (word_at words (owner_word n page)).present) (pages_are words pages size.whole)
 
-size_stored : (words : List Word) (pages addr value : ℕ) → IsPages (length words) pages → IsPages (length (store_at addr value words)) pages
+pub size_stored : (words : List Word) (pages addr value : ℕ) → IsPages (length words) pages → IsPages (length (store_at addr value words)) pages
 size_stored words pages addr value size = subst (λ (n : ℕ). IsPages n pages) (sym (length_store_at addr value words)) size
 
 -- a store at another address leaves it
-owner_kept : (words : List Word) (pages page addr value : ℕ) → IsPages (length words) pages → addr % 8 ≡ 0 → owner_word pages page ≢ addr → owner_of (store_at addr value words) page ≡ owner_of words page
+pub owner_kept : (words : List Word) (pages page addr value : ℕ) → IsPages (length words) pages → addr % 8 ≡ 0 → owner_word pages page ≢ addr → owner_of (store_at addr value words) page ≡ owner_of words page
 owner_kept words pages page addr value size aligned ne =
     owner_is (store_at addr value words) pages page (size_stored words pages addr value size)
     ∙ ap (λ (w : Word). w.present) (word_at_other addr (owner_word pages page) value words aligned (omega arith) ne)
     ∙ sym (owner_is words pages page size)
 
 -- the page that was given is the coffer's
-owner_given : (words : List Word) (pages page coffer : ℕ) → IsPages (length words) pages → page < pages → owner_of (store_at (owner_word pages page) coffer words) page ≡ coffer
+pub owner_given : (words : List Word) (pages page coffer : ℕ) → IsPages (length words) pages → page < pages → owner_of (store_at (owner_word pages page) coffer words) page ≡ coffer
 owner_given words pages page coffer size lt =
     owner_is (store_at (owner_word pages page) coffer words) pages page (size_stored words pages (owner_word pages page) coffer size)
     ∙ ap (λ (w : Word). w.present) (word_at_stored (owner_word pages page) coffer words (owner_address (length words) pages page size lt))
@@ -128,7 +128,7 @@ first_and_rest words new view pages first coffer addr same at stored free lt som
 pub size_new : (pages : ℕ) → 64 ≤ pages → pages ≤ 16384 → IsPages (length (new_image pages)) pages
 size_new pages least most = record { whole = length-map-range_with_len (new_word pages) 0 (512 * pages); least = least; most = most }
 
-size_opened : (pages : ℕ) → 64 ≤ pages → pages ≤ 16384 → IsPages (length (all_durable (new_image pages))) pages
+pub size_opened : (pages : ℕ) → 64 ≤ pages → pages ≤ 16384 → IsPages (length (all_durable (new_image pages))) pages
 size_opened pages least most = subst (λ (n : ℕ). IsPages n pages) (sym (length_all_durable (new_image pages))) (size_new pages least most)
 
 third : (a b c : Bool) (x y z w : ℕ) → a ≡ false → b ≡ false → c ≡ true → cond a x (cond b y (cond c z w)) ≡ z

@@ -26,3 +26,5 @@ mod NameLaws
 mod TreeLaws
 -- words that are built of files denote their tree
 mod DenoteLaws
+-- how the words of a new image lie
+mod NewLaws
