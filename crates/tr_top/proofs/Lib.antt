@@ -28,3 +28,5 @@ mod TreeLaws
 mod DenoteLaws
 -- how the words of a new image lie
 mod NewLaws
+-- pages that are given to the root coffer
+mod GivenLaws
