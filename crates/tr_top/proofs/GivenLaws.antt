@@ -75,7 +75,8 @@ pub record IsGiven (words new : List Word) : Type 0 where
   pub owned : (page : ℕ) → owner_of words page ≡ 1 → owner_of new page ≡ 1
   pub free : (page : ℕ) → owner_of new page ≡ 0 → owner_of words page ≡ 0
 
-pages_same : (words new : List Word) → length new ≡ length words → pages_of new ≡ pages_of words
+-- a memory of the same length has the same number of pages
+pub pages_same : (words new : List Word) → length new ≡ length words → pages_of new ≡ pages_of words
 pages_same words new len = ap (λ (n : ℕ). n / 512) len
 
 given_none : (words : List Word) → IsGiven words words

@@ -30,3 +30,5 @@ mod DenoteLaws
 mod NewLaws
 -- pages that are given to the root coffer
 mod GivenLaws
+-- what lies in a coffer that grows
+mod EnlargeLaws

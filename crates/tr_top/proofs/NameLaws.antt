@@ -19,8 +19,8 @@ kept parts = filter (λ part. not (length part == 0)) parts
 kept_one : (name : List ℕ) → 0 < length name → kept (name ∷ []) ≡ name ∷ []
 kept_one name some = ap (λ (b : Bool). cond (not b) (name ∷ []) []) (ne_eqb (length name) 0 (λ e. omega arith))
 
-pub names_of_one : (byte : ℕ) (name : List ℕ) → byte ≡ 47 → IsName name → names_of (byte ∷ name) ≡ name ∷ []
-names_of_one byte name slash is =
+pub name_in_path : (byte : ℕ) (name : List ℕ) → byte ≡ 47 → IsName name → names_of (byte ∷ name) ≡ name ∷ []
+name_in_path byte name slash is =
     ap kept (cond-true (byte == 47) ([] ∷ parts_of name) (in_first byte (parts_of name)) (eq-eqb byte 47 slash))
     ∙ ap (λ (parts : List (List ℕ)). kept ([] ∷ parts)) (parts_of_plain name (All-weaker IsNameByte (λ b. b ≢ 47) (λ b plain. plain.2) name is.bytes))
     ∙ kept_one name is.some
@@ -28,7 +28,7 @@ names_of_one byte name slash is =
 -- the same of a path that is known to be of one name
 pub names_of_path : (path : List ℕ) → IsPathOfOne path → names_of path ≡ drop 1 path ∷ []
 names_of_path [] is = absurd is
-names_of_path (byte ∷ name) is = names_of_one byte name is.0 is.1
+names_of_path (byte ∷ name) is = name_in_path byte name is.0 is.1
 
 pub names_of_root : names_of (47 ∷ []) ≡ []
 names_of_root = refl
