@@ -1,11 +1,11 @@
 -- Words that are built of files denote the tree of these files.
-use Rattle.std.proofs.Common.{◌≡◌, ◌≢◌, ◌⊎◌, inl, inr, ℕ, ◌+◌, ◌*◌, ◌<◌, ◌≤◌, Bool, true, false, cond, ◌==◌, List, [], ◌∷◌, length, slice_index, Contains, Option, Some, None, refl, sym, ap, subst, ◌∙◌, arith, eqb-true, eq-eqb, ext_get_or}
-use Rattle.std.proofs.lemmas.Bool.{cond-true, cond-false, cases_Bool}
+use Rattle.std.proofs.Common.{◌≡◌, ◌⊎◌, inl, inr, ℕ, Bool, true, false, cond, ◌==◌, List, [], ◌∷◌, length, Contains, Some, refl, sym, ap, subst, ◌∙◌, arith, eqb-true, eq-eqb, ext_get_or}
+use Rattle.std.proofs.lemmas.Bool.{cond-true}
 use Rattle.pm_words.specs.Word.{Word}
 use Rattle.tr_types.specs.Layout.{page_at, bucket_of, entry_target}
 use Rattle.tr_types.specs.Tree.{Node, node_at}
 use Rattle.tr_types.specs.Denotes.{value, IsNamed, IsShown, Denotes}
-use Rattle.tr_top.specs.Laid.{Role, FilePage, FileAt, HasFile, AreDistinct, IsBuilt, entries_in, tree_of}
+use Rattle.tr_top.specs.Laid.{Role, FilePage, FileAt, AreDistinct, IsBuilt, entries_in, tree_of}
 use Rattle.tr_top.proofs.TreeLaws.{contains_here, contains_there, contains_cases, contains_none, node_of_file, file_of_node, node_of_root, flat_tree}
 
 -- Entries of a bucket.
@@ -20,8 +20,9 @@ pub record IsFileOf (files : List FileAt) (bucket entry : ℕ) : Type 0 where
 file_of_more : (f : FileAt) (files : List FileAt) (bucket entry : ℕ) → (Contains (entries_in bucket files) entry → IsFileOf files bucket entry)
     → (b : Bool) → (bucket_of f.name == bucket) ≡ b → Contains (cond b (f.entry ∷ entries_in bucket files) (entries_in bucket files)) entry → IsFileOf (f ∷ files) bucket entry
 file_of_more f files bucket entry later true is has = elim (contains_cases f.entry (entries_in bucket files) entry has) [
-      inl same ↦ record { file = f; has = contains_here f files; is = same; lies = eqb-true (bucket_of f.name) bucket is }
-      | inr rest ↦ let g = later rest in record { file = g.file; has = contains_there f files g.file g.has; is = g.is; lies = g.lies } ]
+  | inl same ↦ record { file = f; has = contains_here f files; is = same; lies = eqb-true (bucket_of f.name) bucket is }
+  | inr rest ↦ let g = later rest in record { file = g.file; has = contains_there f files g.file g.has; is = g.is; lies = g.lies }
+]
 file_of_more f files bucket entry later false is has =
     let g = later has in
     record { file = g.file; has = contains_there f files g.file g.has; is = g.is; lies = g.lies }
@@ -75,19 +76,20 @@ module _ (words : List Word) (roles : ℕ → Role) (files : List FileAt) (built
       let f = file_of_entry files bucket entry has in
       let h = built.each f.file f.has in
       subst (IsShown words (tree_of files) bucket) f.is (record {
-      name = f.file.name;
-      named = h.named;
-      in_bucket = f.lies;
-      file = record { page = f.file.page; coffers = h.coffers; target = h.target; kind = h.kind; map = h.map };
-      stands = node_of_file files f.file f.has;
-    })
+        name = f.file.name;
+        named = h.named;
+        in_bucket = f.lies;
+        file = record { page = f.file.page; coffers = h.coffers; target = h.target; kind = h.kind; map = h.map };
+        stands = node_of_file files f.file f.has;
+      })
 
   found : (name : List ℕ) (node : Node) → node_at (tree_of files) (name ∷ []) ≡ Some node → (entry : ℕ) × Contains (entries_in (bucket_of name) files) entry × IsNamed words entry name
   found name node is =
-      let f = file_of_node files name node is in
-      (f.0.entry,
+      let f = file_of_node files name node is in (
+        f.0.entry,
         subst (λ (n : List ℕ). Contains (entries_in (bucket_of n) files) f.0.entry) f.2 (entry_of_file files f.0 f.1),
-        subst (IsNamed words f.0.entry) f.2 (built.each f.0 f.1).named)
+        subst (IsNamed words f.0.entry) f.2 (built.each f.0 f.1).named,
+      )
 
   same_target : (f g : FileAt) → Contains files f → Contains files g → value words (entry_target f.entry) ≡ value words (entry_target g.entry) → f.entry ≡ g.entry
   same_target f g hf hg same =

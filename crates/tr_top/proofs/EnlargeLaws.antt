@@ -1,10 +1,10 @@
 -- What lies in the root coffer lies there still when free pages have become the coffer's.
-use Rattle.std.proofs.Common.{◌≡◌, ◌≢◌, ◌⊎◌, inl, inr, ℕ, ◌+◌, ◌-◌, ◌*◌, ◌/◌, ◌%◌, ◌^◌, ◌<◌, ◌≤◌, List, [], ◌∷◌, length, take, slice_index, Contains, refl, sym, ap, subst, ◌∙◌, arith}
+use Rattle.std.proofs.Common.{◌≡◌, ◌⊎◌, inl, inr, ℕ, ◌/◌, ◌%◌, ◌^◌, ◌<◌, ◌≤◌, List, [], ◌∷◌, length, take, Contains, sym, ap, subst, ◌∙◌, arith}
 use Rattle.pm_words.specs.Word.{Word}
 use Rattle.pm_words.specs.Memory.{IsPages}
 use Rattle.tr_types.specs.Layout.{page_at, word_of, kernel_pages, root_control, root_page, bucket_head, first_free_entry, pool_head, entry_target, file_map, name_length, name_word}
 use Rattle.tr_types.specs.KernelView.{pages_of, owner_of, free_pages, given_to}
-use Rattle.tr_types.specs.Denotes.{value, control_of, dir_of, IsCofferPage, IsPlace, Chain, IsNamed}
+use Rattle.tr_types.specs.Denotes.{value, IsCofferPage, IsPlace, Chain, IsNamed}
 use Rattle.tr_top.specs.Laid.{Role, FileAt, IsPlaceOf, HasFile, entries_in, IsBuilt, AreFree, IsLaid, IsFresh}
 use Rattle.tr_top.proofs.DenoteLaws.{file_of_entry}
 use Rattle.tr_top.proofs.GivenLaws.{IsGiven, free_is, given_free, pages_same}
@@ -89,10 +89,12 @@ module _ (words new : List Word) (given : IsGiven words new) where
   chain_kept : (at : ℕ) (entries : List ℕ) → ((entry : ℕ) → Contains entries entry → IsPast words entry) → Chain words at entries → Chain new at entries
   chain_kept at [] past chain = chain
   chain_kept at (entry ∷ entries) past chain =
-      let here = past entry (contains_here entry entries) in
-      (chain.0, place_kept entry chain.1,
+      let here = past entry (contains_here entry entries) in (
+        chain.0,
+        place_kept entry chain.1,
         subst (λ (a : ℕ). Chain new a entries) (sym (given.kept entry here.0 here.1))
-        (chain_kept (value words entry) entries (λ e has. past e (contains_there entry entries e has)) chain.2))
+            (chain_kept (value words entry) entries (λ e has. past e (contains_there entry entries e has)) chain.2),
+      )
 
   -- the chain from a word whose place is said by the number of pages
   chain_from : (at : ℕ → ℕ) (entries : List ℕ) → IsPast words (at (pages_of words)) → ((entry : ℕ) → Contains entries entry → IsPast words entry)
@@ -111,7 +113,7 @@ module _ (words new : List Word) (given : IsGiven words new) where
     kind = kept_at (λ n. page_at (root_page n)) (omega arith, omega arith) ∙ built.kind;
     no_intent = kept_at (λ n. word_of (page_at (root_control n)) 3) (omega arith, omega arith) ∙ built.no_intent;
     heads = λ b lt.
-      chain_from (λ n. bucket_head (page_at (root_page n)) b) (entries_in b files) (omega arith, omega arith) (λ e has. past_entry words roles files b e built.each has) (built.heads b lt);
+        chain_from (λ n. bucket_head (page_at (root_page n)) b) (entries_in b files) (omega arith, omega arith) (λ e has. past_entry words roles files b e built.each has) (built.heads b lt);
     each = λ f has. file_kept roles f (built.each f has);
     distinct = built.distinct;
   }
@@ -129,8 +131,8 @@ module _ (words new : List Word) (given : IsGiven words new) where
     free = free_kept roles files frees laid.free;
     pool = kept_at (λ n. pool_head (page_at (root_control n)) 0) (omega arith, omega arith) ∙ laid.pool;
     spare = λ page lt nobody.
-      let was = laid.spare page (subst (λ (n : ℕ). page < n) count lt) (given.free page nobody) in
-      (was.0, past_root page was.1);
+        let was = laid.spare page (subst (λ (n : ℕ). page < n) count lt) (given.free page nobody) in
+        (was.0, past_root page was.1);
     blank = λ page i lt nobody low. blank_kept roles files frees laid page i (subst (λ (n : ℕ). page < n) count lt) (given.free page nobody) low;
   }
 
@@ -148,14 +150,15 @@ module _ (words new : List Word) (given : IsGiven words new) where
 -- a coffer that grows is laid as it was, and the pages that it was given are fresh
 pub laid_enlarge : (words : List Word) (roles : ℕ → Role) (files : List FileAt) (frees : List ℕ) (count : ℕ) → IsLaid words roles files frees
     → let new = given_to 1 (take count (free_pages words)) words in
-      IsLaid new roles files frees × ((page : ℕ) → Contains (take count (free_pages words)) page → IsFresh new roles page) × (pages_of new ≡ pages_of words) × (length new ≡ length words)
+    IsLaid new roles files frees × ((page : ℕ) → Contains (take count (free_pages words)) page → IsFresh new roles page) × (pages_of new ≡ pages_of words) × (length new ≡ length words)
 laid_enlarge words roles files frees count laid =
     let new = given_to 1 (take count (free_pages words)) words in
     let all = given_free words count laid.built.size in
-    let given = all.is_given in
-    (laid_kept words new given roles files frees laid,
+    let given = all.is_given in (
+      laid_kept words new given roles files frees laid,
       λ page has.
-        let is = free_is words count page has in
-        fresh_is words new given roles files frees laid page is.0 is.1 (all.owners page has),
+          let is = free_is words count page has in
+          fresh_is words new given roles files frees laid page is.0 is.1 (all.owners page has),
       pages_same words new given.len,
-      given.len)
+      given.len,
+    )

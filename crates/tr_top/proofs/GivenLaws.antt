@@ -1,12 +1,11 @@
 -- What pages that are given to the root coffer change: their owners, and nothing in the coffer's own pages.
-use Rattle.std.proofs.Common.{◌≡◌, ◌≢◌, ◌⊎◌, inl, inr, ℕ, zero, suc, ◌+◌, ◌-◌, ◌*◌, ◌/◌, ◌%◌, ◌<◌, ◌≤◌, Bool, true, false, cond, ◌==◌, List, [], ◌∷◌, length, take, filter, fold, All, Contains, refl, sym, ap, subst, ◌∙◌, arith, eqb-true, nat_eq, get_or}
+use Rattle.std.proofs.Common.{◌≡◌, ◌≢◌, ◌⊎◌, inl, inr, ℕ, zero, suc, ◌+◌, ◌/◌, ◌%◌, ◌<◌, ◌≤◌, Bool, true, false, cond, List, [], ◌∷◌, length, take, filter, fold, All, Contains, refl, sym, ap, subst, ◌∙◌, arith, eqb-true, nat_eq}
 use Rattle.std.specs.List.{range_with_len}
-use Rattle.std.proofs.lemmas.Bool.{cases_eq, cases_Bool}
-use Rattle.std.proofs.lemmas.List.{get_or_default}
+use Rattle.std.proofs.lemmas.Bool.{cases_eq}
 use Rattle.std.proofs.lemmas.List.Elements.{All-head, All-tail, All-take, All-filter, All-contains, Contains-get_or, filter_passes}
 use Rattle.std.proofs.lemmas.List.FromFn.{length-range_with_len, get_or-range_with_len}
 use Rattle.pm_words.specs.Word.{Word}
-use Rattle.pm_words.specs.Memory.{word_at, store_at, IsPages}
+use Rattle.pm_words.specs.Memory.{store_at, IsPages}
 use Rattle.pm_words.proofs.WordLemmas.{length_store_at, word_at_other}
 use Rattle.tr_types.specs.Layout.{page_at, kernel_pages, owner_word}
 use Rattle.tr_types.specs.KernelView.{pages_of, owner_of, free_pages, given_to}
@@ -86,7 +85,7 @@ given_then : (words middle new : List Word) → IsGiven words middle → IsGiven
 given_then words middle new one two = record {
   len = two.len ∙ one.len;
   kept = λ addr low aligned.
-    two.kept addr (subst (λ (n : ℕ). page_at (kernel_pages n) ≤ addr) (sym (pages_same words middle one.len)) low) aligned ∙ one.kept addr low aligned;
+      two.kept addr (subst (λ (n : ℕ). page_at (kernel_pages n) ≤ addr) (sym (pages_same words middle one.len)) low) aligned ∙ one.kept addr low aligned;
   owned = λ page is. two.owned page (one.owned page is);
   free = λ page is. one.free page (two.free page is);
 }
@@ -114,8 +113,8 @@ module _ (count : ℕ) (words : List Word) (given : ℕ) (size : IsPages (length
   given_one = record {
     len = length_store_at (owner_word count given) 1 words;
     kept = λ addr low aligned.
-      let past : page_at (kernel_pages count) ≤ addr = subst (λ (n : ℕ). page_at (kernel_pages n) ≤ addr) (pages_are words count size.whole) low in
-      ap (λ (w : Word). w.present) (word_at_other (owner_word count given) addr 1 words (omega arith) aligned (λ e. omega arith));
+        let past : page_at (kernel_pages count) ≤ addr = subst (λ (n : ℕ). page_at (kernel_pages n) ≤ addr) (pages_are words count size.whole) low in
+        ap (λ (w : Word). w.present) (word_at_other (owner_word count given) addr 1 words (omega arith) aligned (λ e. omega arith));
     owned = λ page is. still_owned page (cases_eq page given) is;
     free = λ page is. still_free page (cases_eq page given) is;
   }
@@ -135,8 +134,9 @@ given_all count (first ∷ pages) words size inside =
     record {
       is_given = given_then words now (fold (with_one count) now pages) one rest.is_given;
       owners = λ page has. elim (contains_cases first pages page has) [
-        inl same ↦ rest.is_given.owned page (ap (λ (p : ℕ). owner_of now p) (sym same) ∙ is_owner count words first size lt)
-        | inr later ↦ rest.owners page later ];
+        | inl same ↦ rest.is_given.owned page (ap (λ (p : ℕ). owner_of now p) (sym same) ∙ is_owner count words first size lt)
+        | inr later ↦ rest.owners page later
+      ];
     }
 
 -- the pages that a memory gives

@@ -1,12 +1,12 @@
 -- How the words of a new image lie: no file, no free entry, and nothing but zeros past the kernel's pages.
-use Rattle.std.proofs.Common.{◌≡◌, ◌≢◌, ◌⊎◌, inl, inr, ℕ, ◌+◌, ◌-◌, ◌*◌, ◌/◌, ◌%◌, ◌<◌, ◌≤◌, Bool, true, false, cond, if◌then◌else◌, ◌==◌, List, [], ◌∷◌, length, Contains, refl, sym, ap, subst, ◌∙◌, arith, eq-eqb, ne_eqb, nat_lt}
-use Rattle.std.proofs.lemmas.Bool.{cond-true, cond-false, lt-ltb, le-ltb, cases_lt, cases_eq}
+use Rattle.std.proofs.Common.{◌≡◌, ◌⊎◌, inl, inr, ℕ, ◌+◌, ◌*◌, ◌/◌, ◌%◌, ◌<◌, ◌≤◌, Bool, false, cond, if◌then◌else◌, ◌==◌, List, [], length, refl, sym, ap, subst, ◌∙◌, arith, eq-eqb, ne_eqb}
+use Rattle.std.proofs.lemmas.Bool.{cond-false, le-ltb, cases_lt}
 use Rattle.std.proofs.lemmas.List.FromFn.{get_or-map-range_with_len, length-map-range_with_len}
 use Rattle.pm_words.specs.Word.{Word}
 use Rattle.pm_words.specs.Memory.{all_durable, IsPages}
 use Rattle.pm_words.proofs.WordLemmas.{word_at_all_durable}
 use Rattle.tr_types.specs.Layout.{page_at, word_of, kernel_pages, owner_table, coffer_table, bucket_page, root_control, root_page, bucket_head, first_free_entry, pool_head}
-use Rattle.tr_types.specs.NewImage.{new_image, new_word, word_in_page, superblock_word, owner_table_word, coffer_word, bucket_word, owner_in_new}
+use Rattle.tr_types.specs.NewImage.{new_image, new_word, word_in_page}
 use Rattle.tr_types.specs.KernelView.{pages_of, owner_of}
 use Rattle.tr_types.specs.Denotes.{value}
 use Rattle.tr_top.specs.Laid.{Role, Spare, Control, Root, IsBuilt, IsLaid}
@@ -107,12 +107,12 @@ module _ (pages : ℕ) (least : 64 ≤ pages) (most : pages ≤ 16384) where
     free = tt;
     pool = zero_in_root (λ n. pool_head (page_at (root_control n)) 0) (omega arith) (omega arith);
     spare = λ page lt nobody.
-      let past = past_root page (subst (λ (n : ℕ). page < n) count lt) nobody in
-      (role_spare pages page past, subst (λ (n : ℕ). root_page n < page) (sym count) past);
+        let past = past_root page (subst (λ (n : ℕ). page < n) count lt) nobody in
+        (role_spare pages page past, subst (λ (n : ℕ). root_page n < page) (sym count) past);
     blank = λ page i lt nobody low.
-      let inside : page < pages = subst (λ (n : ℕ). page < n) count lt in
-      let past = past_root page inside nobody in
-      zero_new pages page (word_of (page_at page) i) (omega arith) inside (omega arith) (omega arith);
+        let inside : page < pages = subst (λ (n : ℕ). page < n) count lt in
+        let past = past_root page inside nobody in
+        zero_new pages page (word_of (page_at page) i) (omega arith) inside (omega arith) (omega arith);
   }
 
 -- every word past the kernel's pages of a new image is 0, and so it is laid

@@ -1,12 +1,12 @@
 -- What stands in the tree of some files, and what a new file changes.
-use Rattle.std.proofs.Common.{◌≡◌, ◌≢◌, ◌⊎◌, inl, inr, ℕ, zero, suc, ◌+◌, ◌<◌, ◌≤◌, Bool, true, false, cond, ◌==◌, ◌&&◌, List, [], ◌∷◌, ◌++◌, length, drop, filter, Contains, Option, Some, None, is_some, refl, sym, ap, subst, ◌∙◌, arith, nat_eq}
+use Rattle.std.proofs.Common.{◌≡◌, ◌≢◌, ◌⊎◌, inl, inr, ℕ, zero, suc, ◌+◌, ◌≤◌, Bool, true, false, cond, List, [], ◌∷◌, ◌++◌, length, drop, filter, Contains, Option, Some, None, is_some, refl, sym, ap, ◌∙◌, arith, nat_eq}
 use Rattle.std.specs.Cmp.Lexicographic.{pointwise, pointwise_decides, bytes_decides}
-use Rattle.std.proofs.lemmas.Bool.{cond-true, cond-false, cases_Bool, and_right}
+use Rattle.std.proofs.lemmas.Bool.{cond-true, cond-false, and_right}
 use Rattle.std.proofs.lemmas.List.{length_push}
 use Rattle.std.proofs.lemmas.List.Elements.{filter-append}
 use Rattle.std.proofs.lemmas.Option.{none-some}
 use Rattle.tr_types.specs.declared.command.Command.TheVariants.{Create}
-use Rattle.tr_types.specs.Tree.{Node, Directory, FileOf, Member, names_of, same_names, node_at, is_child, new_tree, tree_after}
+use Rattle.tr_types.specs.Tree.{Node, Directory, FileOf, Member, same_names, node_at, is_child, tree_after}
 use Rattle.tr_top.specs.Grammar.{IsPathOfOne}
 use Rattle.tr_top.specs.Laid.{FileAt, tree_of}
 use Rattle.tr_top.proofs.NameLaws.{names_of_path}
@@ -68,13 +68,20 @@ more_stand f files name (inl (g, has, named, stands)) b is =
 more_stand f files name (inr (none, unnamed)) true is =
     let same : f.name ∷ [] ≡ name ∷ [] = (same_names_decides (f.name ∷ []) (name ∷ [])).0 is in
     let named : f.name ≡ name = cc in
-    inl (f, contains_here f files, named,
-      node_past (tree_of files) (member_of f ∷ []) (name ∷ []) none ∙ cond-true (same_names (f.name ∷ []) (name ∷ [])) (Some (FileOf [])) None is)
+    inl (
+      f,
+      contains_here f files,
+      named,
+      node_past (tree_of files) (member_of f ∷ []) (name ∷ []) none ∙ cond-true (same_names (f.name ∷ []) (name ∷ [])) (Some (FileOf [])) None is,
+    )
 more_stand f files name (inr (none, unnamed)) false is =
-    inr (node_past (tree_of files) (member_of f ∷ []) (name ∷ []) none ∙ cond-false (same_names (f.name ∷ []) (name ∷ [])) (Some (FileOf [])) None is,
+    inr (
+      node_past (tree_of files) (member_of f ∷ []) (name ∷ []) none ∙ cond-false (same_names (f.name ∷ []) (name ∷ [])) (Some (FileOf [])) None is,
       λ g has named. elim (contains_cases f files g has) [
-        inl same ↦ false≢true' (sym is ∙ (same_names_decides (f.name ∷ []) (name ∷ [])).1 (ap (λ (n : List ℕ). n ∷ []) (ap (λ (h : FileAt). h.name) same ∙ named)))
-        | inr rest ↦ unnamed g rest named ])
+        | inl same ↦ false≢true' (sym is ∙ (same_names_decides (f.name ∷ []) (name ∷ [])).1 (ap (λ (n : List ℕ). n ∷ []) (ap (λ (h : FileAt). h.name) same ∙ named)))
+        | inr rest ↦ unnamed g rest named
+      ],
+    )
   where
     false≢true' : false ≡ true → ⊥
     false≢true' e = cc
@@ -86,20 +93,23 @@ stands_or_not (f ∷ files) name = more_stand f files name (stands_or_not files 
 -- a file stands under its name
 pub node_of_file : (files : List FileAt) (f : FileAt) → Contains files f → node_at (tree_of files) (f.name ∷ []) ≡ Some (FileOf [])
 node_of_file files f has = elim (stands_or_not files f.name) [
-      inl stands ↦ stands.3
-      | inr missing ↦ absurd (missing.1 f has refl) ]
+  | inl stands ↦ stands.3
+  | inr missing ↦ absurd (missing.1 f has refl)
+]
 
 -- under another name stands nothing
 pub node_of_none : (files : List FileAt) (name : List ℕ) → ((f : FileAt) → Contains files f → f.name ≢ name) → node_at (tree_of files) (name ∷ []) ≡ None
 node_of_none files name unnamed = elim (stands_or_not files name) [
-      inl stands ↦ absurd (unnamed stands.0 stands.1 stands.2)
-      | inr missing ↦ missing.0 ]
+  | inl stands ↦ absurd (unnamed stands.0 stands.1 stands.2)
+  | inr missing ↦ missing.0
+]
 
 -- what stands under a name is a file of that name
 pub file_of_node : (files : List FileAt) (name : List ℕ) (node : Node) → node_at (tree_of files) (name ∷ []) ≡ Some node → (f : FileAt) × Contains files f × (f.name ≡ name)
 file_of_node files name node is = elim (stands_or_not files name) [
-      inl stands ↦ (stands.0, stands.1, stands.2)
-      | inr missing ↦ absurd (none-some node (sym missing.0 ∙ is)) ]
+  | inl stands ↦ (stands.0, stands.1, stands.2)
+  | inr missing ↦ absurd (none-some node (sym missing.0 ∙ is))
+]
 
 pub node_of_root : (files : List FileAt) → node_at (tree_of files) [] ≡ Some Directory
 node_of_root [] = refl
