@@ -20,17 +20,11 @@ mod CallRuns
 mod LineRuns
 -- how a run ends
 mod Endings
--- words of letters
-mod LettersLemmas
--- how a plan grows
-mod PlanPairs
--- stores of plans
-mod PlanLemmas
--- trees of files
-mod TreeLaws
--- names of a path
+-- the names of a path of one name
 mod NameLaws
--- the words of the files denote the tree
+-- what stands in the tree of some files
+mod TreeLaws
+-- words that are built of files denote their tree
 mod DenoteLaws
 -- how the words of a new image lie
 mod NewLaws
@@ -38,17 +32,3 @@ mod NewLaws
 mod GivenLaws
 -- what lies in a coffer that grows
 mod EnlargeLaws
--- where words lie
-mod Places
--- a call's loads
-mod LoadSteps
--- the stores of a plan
-mod SpotLaws
--- a call's stores
-mod StoreSteps
--- a call's replies
-mod ReplySteps
--- a call's exits
-mod CallExits
--- a call for pages
-mod AskSteps
