@@ -20,3 +20,9 @@ mod CallRuns
 mod LineRuns
 -- how a run ends
 mod Endings
+-- addresses of words of the root coffer
+mod Places
+-- what a look-up knows, step by step
+mod LookLemmas
+-- what a count knows, step by step
+mod CountLemmas

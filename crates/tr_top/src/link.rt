@@ -1,5 +1,5 @@
 // Addresses that a call follows.
-ghost use Rattle.std.specs.Prelude.{◌≡◌, ◌<◌, ◌≤◌, ◌^◌};
+ghost use Rattle.std.specs.Prelude.{◌≡◌, ◌≢◌, ◌↔◌, ℕ, ◌<◌, ◌≤◌, ◌^◌, MatchOption};
 
 use tr_types::Answer;
 use tr_types::layout::FAR;
@@ -22,7 +22,11 @@ pub(crate) enum Link {
 }
 
 impl Link {
-    pub fn of(word: u64) -> Link {
+    pub fn of(word: u64) -> Link
+        ensures end { (result ≡ Link.End) ↔ (word ≡ 0) }
+        ensures to { (entry : _) → result ≡ Link.To entry → entry.at ≡ word }
+        ensures astray { (result ≡ Link.Astray) ↔ (2 ^ 60 ≤ word) }
+    {
         if word == 0 {
             Link::End
         } else if word < FAR {
@@ -34,7 +38,9 @@ impl Link {
 }
 
 /// The word that a load was answered, if it was.
-pub(crate) fn loaded(answer: &Answer) -> Option<u64> {
+pub(crate) fn loaded(answer: &Answer) -> Option<u64>
+    ensures { MatchOption result ((word : ℕ) → answer.now ≢ Answer.Word word) (λ word. answer.now ≡ Answer.Word word) }
+{
     match answer {
         Answer::Word(word) => Some(*word),
         _ => None,

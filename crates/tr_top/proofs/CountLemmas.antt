@@ -1,0 +1,1 @@
+-- What a count knows, step by step.
