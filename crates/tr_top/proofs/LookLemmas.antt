@@ -8,7 +8,9 @@ use Rattle.tr_types.specs.Layout.{page_at, word_of, bucket_head, bucket_of, entr
 use Rattle.tr_types.specs.KernelView.{pages_of}
 use Rattle.tr_types.specs.Denotes.{value, dir_of, Chain, IsNamed, IsPlace}
 use Rattle.tr_top.specs.Laid.{Role, FileAt, HasFile, IsBuilt, IsPlaceOf, entries_in}
-use Rattle.tr_top.specs.Looking.{Walks, Agrees, IsEntryOf}
+use Rattle.tr_types.specs.declared.action.Answer.{Answer}
+use Rattle.tr_top.specs.declared.lookup.Asked.{Asked as LookAsked}
+use Rattle.tr_top.specs.Looking.{Walks, Agrees, IsEntryOf, LookKnowsAt}
 use Rattle.tr_top.proofs.Places.{entry_word, entry_address, entry_some, head_address}
 
 -- lists and what they contain
@@ -202,3 +204,15 @@ found_file words roles files name entry target built e is =
     let has = built.each e.file e.stands in
     let named : IsNamed words entry e.file.name = subst (λ (at : ℕ). IsNamed words at e.file.name) e.is has.named in
     (e.file, e.stands, one_name words entry e.file.name name named e.named, is ∙ ap (λ (at : ℕ). value words (entry_target at)) (sym e.is) ∙ has.target)
+
+-- an entry that is a file's has its name
+pub named_file : (words : List Word) (roles : ℕ → Role) (files : List FileAt) (name : List ℕ) (entry : ℕ) → IsBuilt words roles files
+    → (f : FileAt) → Contains files f → f.entry ≡ entry → f.name ≡ name → IsNamed words entry name
+named_file words roles files name entry built f h is same =
+    subst (λ (n : List ℕ). IsNamed words entry n) same (subst (λ (e : ℕ). IsNamed words e f.name) is (built.each f h).named)
+
+-- what is known of what was asked for and of the answer, under other names for them
+pub knows_at : (asked other : LookAsked) (first answer : Answer) (name : List ℕ) (words : List Word) (files : List FileAt) → asked ≡ other → first ≡ answer
+    → LookKnowsAt asked first name words files → LookKnowsAt other answer name words files
+knows_at asked other first answer name words files e f k =
+    subst (λ (a : LookAsked). LookKnowsAt a answer name words files) e (subst (λ (a : Answer). LookKnowsAt asked a name words files) f k)

@@ -135,12 +135,16 @@ impl Lookup {
             → Walks words name.now files head entry.at → Agrees words name.now entry.at (8 * i)
             → LookGives self.new name.now words files result }
     {
-        if letters_at(name, i).is_none() {
-            self.asked = Asked::Target { entry };
-            return LookStep::Load(entry_target(entry.at));
+        match letters_at(name, i) {
+            Some(_) => {
+                self.asked = Asked::Letters { head, entry, i };
+                LookStep::Load(name_word(entry.at, i))
+            }
+            None => {
+                self.asked = Asked::Target { entry };
+                LookStep::Load(entry_target(entry.at))
+            }
         }
-        self.asked = Asked::Letters { head, entry, i };
-        LookStep::Load(name_word(entry.at, i))
     }
 
     // Passes over an entry of another name.

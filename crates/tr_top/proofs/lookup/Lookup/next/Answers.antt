@@ -1,33 +1,54 @@
-use Rattle.std.proofs.Common.{rules, ◌≡◌, ℕ, ◌+◌, ◌*◌, ◌<◌, ◌≤◌, ◌≢◌, List, length, Contains, ◌-◌, ◌/◌, ◌%◌, Bool, true, false, nat_eq, nat_lt, [], ◌∷◌, ◌++◌, slice_index_or, slice_set, bit_and, bit_or, Fits, w8, w32, w64, Bor, MutBor}
+use Rattle.std.proofs.Common.{◌≡◌, ◌≢◌, ℕ, ◌+◌, ◌*◌, ◌/◌, ◌%◌, ◌^◌, ◌<◌, ◌≤◌, List, [], ◌∷◌, length, take, drop, get_or, Contains, Bool, true, false, ap, sym, subst, ◌∙◌, refl, arith, rules, inl, inr}
 use Rattle.pm_words.specs.Word.{Word}
-use Rattle.tr_types.specs.Layout.{name_length as name_length_at}
-use Rattle.tr_types.specs.Layout.{name_word as name_word_at}
+use Rattle.pm_words.specs.Memory.{IsAddress}
+use Rattle.tr_types.specs.Layout.{bucket_head, bucket_of, entry_target, name_length, name_word}
 use Rattle.tr_types.specs.Denotes.{value, dir_of}
 use Rattle.tr_types.specs.declared.action.Answer.{Answer}
-use Rattle.tr_top.specs.Laid.{Role, FileAt, IsBuilt}
+use Rattle.tr_types.specs.declared.action.Answer.TheVariants as answer
+use Rattle.tr_top.specs.declared.lookup.Asked.TheVariants as look
+use Rattle.tr_top.specs.Laid.{FileAt, IsBuilt}
 use Rattle.tr_top.specs.Looking.{Walks, Agrees, LookKnows, LookGives}
+use Rattle.tr_top.proofs.Places.{head_address, entry_word, entry_address, entry_near}
+use Rattle.tr_top.proofs.LookLemmas.{walks_first, walks_at, walks_end, at_place, at_named, name_word_address, agrees_more, named_begins, agrees_all, entry_found, found_file, named_file, knows_at}
 use Rattle.tr_top.proofs.lookup.Lookup.next.Goals as goal
 
--- src/lookup.rt:71:13
 pub returns-in-Nothing-clause-gives : goal.returns-in-Nothing-clause-gives
-returns-in-Nothing-clause-gives c = ?
+returns-in-Nothing-clause-gives c words roles files built dir some short k =
+    let name = c.args.name.now in
+    let low : bucket_of name < 256 = omega arith in
+    let at : c.bucket_head-head_at.result ≡ bucket_head (dir_of words) (bucket_of name)
+        = c.bucket_head-head_at.ensures ∙ ap (λ (d : ℕ). bucket_head d c.bucket_of.result) dir ∙ ap (bucket_head (dir_of words)) c.bucket_of.ensures in
+    (subst (IsAddress (length words)) (sym at) (head_address words (bucket_of name) built.size low),
+     subst (λ (a : ℕ). Walks words name files (value words a) (value words a)) (sym at) (walks_first words roles files name built))
 
--- src/lookup.rt:61:5
-pub returns-in-Nothing-asked : goal.returns-in-Nothing-asked
-returns-in-Nothing-asked c = ?
+pub returns-in-Nothing-asked-clause-gives : goal.returns-in-Nothing-asked-clause-gives
+returns-in-Nothing-asked-clause-gives c words roles files built dir some short k =
+    let name = c.args.name.now in
+    elim c.in-Nothing-asked.is [
+      inl e ↦ absurd (c.in_default.not-Nothing e)
+      | inr e ↦ c.follow.ensures.gives name words roles files built (knows_at c.args.self.now.asked look.Head c.args.answer.now (answer.Word c.in-Some.word) name words files e c.in-Some.ensures k)
+    ]
 
--- src/lookup.rt:61:5
-pub returns-in-Length : goal.returns-in-Length
-returns-in-Length c = ?
+pub returns-in-Length-clause-gives : goal.returns-in-Length-clause-gives
+returns-in-Length-clause-gives c words roles files built dir some short k =
+    let name = c.args.name.now in
+    let f = knows_at c.args.self.now.asked (look.Length c.in-Length.head c.in-Length.entry) c.args.answer.now (answer.Word c.in-Some.word) name words files c.in-Length.is c.in-Some.ensures k in
+    c.measure.ensures.gives words roles files built f.0 f.1
 
--- src/lookup.rt:61:5
-pub returns-in-Letters : goal.returns-in-Letters
-returns-in-Letters c = ?
+pub returns-in-Letters-clause-gives : goal.returns-in-Letters-clause-gives
+returns-in-Letters-clause-gives c words roles files built dir some short k =
+    let name = c.args.name.now in
+    let f = knows_at c.args.self.now.asked (look.Letters c.in-Letters.head c.in-Letters.entry c.in-Letters.i) c.args.answer.now (answer.Word c.in-Some.word) name words files c.in-Letters.is c.in-Some.ensures k in
+    c.compare.ensures.gives words roles files built f.0 f.1 f.2 f.3
 
--- src/lookup.rt:61:5
-pub returns-in-Target : goal.returns-in-Target
-returns-in-Target c = ?
+pub returns-in-Target-clause-gives : goal.returns-in-Target-clause-gives
+returns-in-Target-clause-gives c words roles files built dir some short k =
+    let name = c.args.name.now in
+    let f = knows_at c.args.self.now.asked (look.Target c.in-Target.entry) c.args.answer.now (answer.Word c.in-Some.word) name words files c.in-Target.is c.in-Some.ensures k in
+    found_file words roles files name c.in-Target.entry.at c.in-Some.word built f.0 f.1
 
--- src/lookup.rt:61:5
-pub returns-in-Next : goal.returns-in-Next
-returns-in-Next c = ?
+pub returns-in-Next-clause-gives : goal.returns-in-Next-clause-gives
+returns-in-Next-clause-gives c words roles files built dir some short k =
+    let name = c.args.name.now in
+    let f = knows_at c.args.self.now.asked (look.Next c.in-Next.head c.in-Next.entry) c.args.answer.now (answer.Word c.in-Some.word) name words files c.in-Next.is c.in-Some.ensures k in
+    c.follow-in-Next.ensures.gives name words roles files built f
