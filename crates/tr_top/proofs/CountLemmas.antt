@@ -1,14 +1,15 @@
 -- What a count knows, step by step.
-use Rattle.std.proofs.Common.{◌≡◌, ℕ, suc, ◌+◌, ◌*◌, ◌%◌, ◌<◌, ◌≤◌, Bool, true, false, cond, eqb, ltb, ◌==◌, if◌then◌else◌, List, [], ◌∷◌, length, ap, sym, refl, subst, ◌∙◌, arith}
-use Rattle.std.specs.List.{count_by}
-use Rattle.std.proofs.lemmas.Bool.{lt-ltb}
+use Rattle.std.proofs.Common.{◌≡◌, ℕ, ◌+◌, ◌<◌, ◌≤◌, Bool, true, false, cond, eqb, ltb, ◌==◌, if◌then◌else◌, List, [], ◌∷◌, length, sym, refl, subst, arith}
+use Rattle.std.proofs.lemmas.Bool.{lt-ltb, le-ltb, cond-true, cond-false}
 use Rattle.std.proofs.lemmas.Bool.Decides.{nat_tests}
 use Rattle.std.proofs.lemmas.List.Sums.{sum_by-cons, count_by-le-length}
 use Rattle.pm_words.specs.Word.{Word}
 use Rattle.tr_types.specs.Layout.{bucket_head, bucket_of}
 use Rattle.tr_types.specs.Denotes.{value, dir_of, Chain, IsPlace}
 use Rattle.tr_top.specs.Laid.{Role, FileAt, IsBuilt, entries_in}
-use Rattle.tr_top.specs.Looking.{count_below, Counts}
+use Rattle.tr_types.specs.declared.action.Answer.{Answer}
+use Rattle.tr_top.specs.declared.count.Asked.{Asked as CountAsked}
+use Rattle.tr_top.specs.Looking.{count_below, Counts, CountKnowsAt}
 use Rattle.tr_top.proofs.Places.{entry_some}
 
 -- a number is below the next one where it is below this one or is this one
@@ -33,7 +34,10 @@ count_more b (f ∷ files) =
 -- no bucket stands before the first
 pub count_none : (files : List FileAt) → count_below 0 files ≡ 0
 count_none [] = refl
-count_none (f ∷ files) = sum_by-cons (λ (g : FileAt). cond (ltb (bucket_of g.name) 0) 1 0) f files ∙ count_none files
+count_none (f ∷ files) =
+    let cons = sum_by-cons (λ (g : FileAt). cond (ltb (bucket_of g.name) 0) 1 0) f files in
+    let none = cond-false {A = ℕ} (ltb (bucket_of f.name) 0) 1 0 (le-ltb (bucket_of f.name) 0 (omega arith)) in
+    omega (arith, cons, none, count_none files)
 
 -- each file has one of the 256 buckets
 pub count_all : (files : List FileAt) → count_below 256 files ≡ length files
@@ -41,7 +45,7 @@ count_all [] = refl
 count_all (f ∷ files) =
     let x = bucket_of f.name in
     let cons = sum_by-cons (λ (g : FileAt). cond (ltb (bucket_of g.name) 256) 1 0) f files in
-    let one : cond (ltb x 256) 1 0 ≡ 1 = ap (λ (t : Bool). cond t 1 0) (lt-ltb x 256 (omega arith)) in
+    let one = cond-true {A = ℕ} (ltb x 256) 1 0 (lt-ltb x 256 (omega arith)) in
     omega (arith, cons, one, count_all files)
 
 pub count_within : (b : ℕ) (files : List FileAt) → count_below b files ≤ length files
@@ -84,3 +88,9 @@ counts_one words files b names entry k some = by k.left k.chain k.counted
         counted = omega (arith, counted);
       };
     }
+
+-- what is known of what was asked for and of the answer, under other names for them
+pub count_knows_at : (asked other : CountAsked) (first answer : Answer) (b names : ℕ) (words : List Word) (files : List FileAt) → asked ≡ other → first ≡ answer
+    → CountKnowsAt asked first b names words files → CountKnowsAt other answer b names words files
+count_knows_at asked other first answer b names words files e f k =
+    subst (λ (a : CountAsked). CountKnowsAt a answer b names words files) e (subst (λ (a : Answer). CountKnowsAt asked a b names words files) f k)

@@ -1,17 +1,16 @@
 -- What a look-up knows, step by step.
-use Rattle.std.proofs.Common.{◌≡◌, ◌≢◌, ℕ, zero, suc, ◌+◌, ◌*◌, ◌/◌, ◌%◌, ◌^◌, ◌<◌, ◌≤◌, Bool, true, false, cond, eqb, ◌==◌, if◌then◌else◌, List, [], ◌∷◌, ◌++◌, length, map, filter, take, drop, get_or, Contains, ap, sym, refl, subst, ◌∙◌, ◌⊎◌, inl, inr, arith}
-use Rattle.std.proofs.lemmas.Bool.{eq-eqb, eqb-true, cond_both, cases_lt}
+use Rattle.std.proofs.Common.{◌≡◌, ◌≢◌, ℕ, zero, suc, ◌+◌, ◌*◌, ◌/◌, ◌%◌, ◌^◌, ◌<◌, ◌≤◌, Bool, true, false, cond, ◌==◌, if◌then◌else◌, List, [], ◌∷◌, length, map, filter, take, drop, get_or, Contains, ap, sym, refl, subst, ◌∙◌, ◌⊎◌, inl, inr, arith}
+use Rattle.std.proofs.lemmas.Bool.{eq-eqb, cases_lt}
 use Rattle.std.proofs.lemmas.List.{same_lists, get_or-take, get_or-drop, get_or_default, length-take, length-drop}
 use Rattle.pm_words.specs.Word.{Word}
-use Rattle.pm_words.specs.Memory.{IsAddress, IsPages}
-use Rattle.tr_types.specs.Layout.{page_at, word_of, bucket_head, bucket_of, entry_target, name_length, name_word}
-use Rattle.tr_types.specs.KernelView.{pages_of}
+use Rattle.pm_words.specs.Memory.{IsAddress}
+use Rattle.tr_types.specs.Layout.{page_at, bucket_head, bucket_of, entry_target, name_length, name_word}
 use Rattle.tr_types.specs.Denotes.{value, dir_of, Chain, IsNamed, IsPlace}
-use Rattle.tr_top.specs.Laid.{Role, FileAt, HasFile, IsBuilt, IsPlaceOf, entries_in}
+use Rattle.tr_top.specs.Laid.{Role, FileAt, IsBuilt, IsPlaceOf, entries_in}
 use Rattle.tr_types.specs.declared.action.Answer.{Answer}
 use Rattle.tr_top.specs.declared.lookup.Asked.{Asked as LookAsked}
 use Rattle.tr_top.specs.Looking.{Walks, Agrees, IsEntryOf, LookKnowsAt}
-use Rattle.tr_top.proofs.Places.{entry_word, entry_address, entry_some, head_address}
+use Rattle.tr_top.proofs.Places.{entry_word, entry_some}
 
 -- lists and what they contain
 
@@ -133,8 +132,8 @@ pub one_name : (words : List Word) (entry : ℕ) (name other : List ℕ) → IsN
 one_name words entry name other a b =
     let len : length name ≡ length other = sym a.len ∙ b.len in
     same_lists name other len (λ k d low.
-      let low' : k < length other = omega arith in
-      get_or_default name k d 0 low ∙ a.letters k low ∙ sym (b.letters k low') ∙ get_or_default other k 0 d low')
+    let low' : k < length other = omega arith in
+    get_or_default name k d 0 low ∙ a.letters k low ∙ sym (b.letters k low') ∙ get_or_default other k 0 d low')
 
 -- an entry of 255 letters at most has their words
 pub name_word_address : (words : List Word) (roles : ℕ → Role) (files : List FileAt) (name : List ℕ) (head entry i : ℕ) → IsBuilt words roles files

@@ -1,8 +1,8 @@
 -- Addresses of words of the root coffer: they are addresses of the memory, not 0, and low.
-use Rattle.std.proofs.Common.{◌≡◌, ℕ, ◌+◌, ◌*◌, ◌/◌, ◌%◌, ◌^◌, ◌<◌, ◌≤◌, List, length, subst, sym, arith}
+use Rattle.std.proofs.Common.{◌≡◌, ℕ, ◌+◌, ◌*◌, ◌^◌, ◌<◌, ◌≤◌, List, length, subst, arith}
 use Rattle.pm_words.specs.Word.{Word}
 use Rattle.pm_words.specs.Memory.{IsAddress, IsPages}
-use Rattle.tr_types.specs.Layout.{page_at, word_of, root_page, bucket_head, entry_place}
+use Rattle.tr_types.specs.Layout.{page_at, word_of, root_page, bucket_head}
 use Rattle.tr_types.specs.KernelView.{pages_of}
 use Rattle.tr_types.specs.Denotes.{dir_of, IsPlace}
 

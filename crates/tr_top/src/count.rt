@@ -4,7 +4,7 @@ ghost use Rattle.pm_words.specs.Word.{Word};
 ghost use Rattle.tr_types.specs.Denotes.{dir_of};
 ghost use Rattle.tr_types.specs.declared.action.Answer.{Answer};
 ghost use Rattle.tr_top.specs.Laid.{Role, FileAt, IsBuilt};
-ghost use Rattle.tr_top.specs.Looking.{count_below, CountKnows, CountGives};
+ghost use Rattle.tr_top.specs.Looking.{count_below, Counts, CountKnows, CountGives};
 
 use crate::link::{Addr, Link, loaded};
 use tr_types::Answer;
@@ -67,14 +67,27 @@ impl Count {
             Asked::Head => head_at,
             Asked::Next(entry) => entry.at,
         };
-        match loaded(answer).map(Link::of) {
-            Some(Link::End) => self.next_bucket(),
-            Some(Link::To(entry)) => {
+        match loaded(answer) {
+            Some(word) => self.follow(word, from),
+            None => CountStep::Damaged(from),
+        }
+    }
+
+    // Goes on to the entry that the word loaded from `from` leads to.
+    fn follow(&mut self, word: u64, from: u64) -> CountStep
+        ensures dir { self.new.dir ≡ self.old.dir }
+        ensures gives { (words : List Word) (roles : ℕ → Role) (files : List FileAt) → IsBuilt words roles files
+            → length files < 2 ^ 63 → self.old.dir.at ≡ dir_of words → Counts words files self.old.bucket self.old.names word
+            → CountGives self.new words files result }
+    {
+        match Link::of(word) {
+            Link::End => self.next_bucket(),
+            Link::To(entry) => {
                 self.names = self.names.saturating_add(1);
                 self.asked = Asked::Next(entry);
                 CountStep::Load(entry.at)
             }
-            Some(Link::Astray) | None => CountStep::Damaged(from),
+            Link::Astray => CountStep::Damaged(from),
         }
     }
 

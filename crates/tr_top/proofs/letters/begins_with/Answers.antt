@@ -26,9 +26,10 @@ begins_is word letters bytes r short bytes_are is =
     let decides = slice_eq-Decides Decides-eqb (take n bytes) letters r is in
     let byte = λ (k : ℕ) (low : k < n). get_or-take n bytes k 0 low ∙ ap (λ (xs : List ℕ). get_or xs k 0) bytes_are ∙ byte_of word k (omega arith) in
     let long : length bytes ≡ 8 = ap length bytes_are in
-    let len : length (take n bytes) ≡ n = length-take-le n bytes (omega arith) in
-    (λ t k low. ap (λ (xs : List ℕ). get_or xs k 0) (sym (decides.0 t)) ∙ byte k low,
-     λ same. decides.1 (ext_get_or 0 (take n bytes) letters len (λ k low. let low' : k < n = omega arith in byte k low' ∙ sym (same k low'))))
+    let len : length (take n bytes) ≡ n = length-take-le n bytes (omega arith) in (
+      λ t k low. ap (λ (xs : List ℕ). get_or xs k 0) (sym (decides.0 t)) ∙ byte k low,
+      λ same. decides.1 (ext_get_or 0 (take n bytes) letters len (λ k low. let low' : k < n = omega arith in byte k low' ∙ sym (same k low'))),
+    )
 
 pub returns : goal.returns
 returns c = begins_is c.args.word c.args.letters.now c.write_u64.new.buf c.eq.result c.requires c.write_u64.ensures c.eq.ensures

@@ -1,15 +1,6 @@
-use Rattle.std.proofs.Common.{◌≡◌, ◌≢◌, ℕ, ◌+◌, ◌*◌, ◌/◌, ◌%◌, ◌^◌, ◌<◌, ◌≤◌, List, [], ◌∷◌, length, take, drop, get_or, Contains, Bool, true, false, ap, sym, subst, ◌∙◌, refl, arith, rules, inl, inr}
-use Rattle.pm_words.specs.Word.{Word}
-use Rattle.pm_words.specs.Memory.{IsAddress}
-use Rattle.tr_types.specs.Layout.{bucket_head, bucket_of, entry_target, name_length, name_word}
-use Rattle.tr_types.specs.Denotes.{value, dir_of}
-use Rattle.tr_types.specs.declared.action.Answer.{Answer}
-use Rattle.tr_types.specs.declared.action.Answer.TheVariants as answer
-use Rattle.tr_top.specs.declared.lookup.Asked.TheVariants as look
-use Rattle.tr_top.specs.Laid.{FileAt, IsBuilt}
-use Rattle.tr_top.specs.Looking.{Walks, Agrees, LookKnows, LookGives}
-use Rattle.tr_top.proofs.Places.{head_address, entry_word, entry_address, entry_near}
-use Rattle.tr_top.proofs.LookLemmas.{walks_first, walks_at, walks_end, at_place, at_named, name_word_address, agrees_more, named_begins, agrees_all, entry_found, found_file, named_file, knows_at}
+use Rattle.std.proofs.Common.{◌≡◌, ℕ, ◌+◌, ◌*◌, false, sym, subst, arith}
+use Rattle.tr_top.specs.Looking.{Agrees}
+use Rattle.tr_top.proofs.LookLemmas.{walks_at, name_word_address, agrees_more, named_begins, named_file}
 use Rattle.tr_top.proofs.lookup.Lookup.compare.Goals as goal
 use Rattle.tr_top.proofs.lookup.Lookup.compare.Goals.{in_default-via-in-Some+else-begins_with, in_default-via-in_default}
 
@@ -27,11 +18,11 @@ pub returns-in_default-clause-gives : goal.returns-in_default-clause-gives
 returns-in_default-clause-gives c words roles files built w agrees low word_is =
     let name = c.args.name.now in
     c.pass.ensures.gives name words roles files built w (λ f h at same.
-      let named = named_file words roles files name c.args.entry.at built f h at same in
-      elim c.in_default.branch [
-        in_default-via-in-Some+else-begins_with v ↦
+    let named = named_file words roles files name c.args.entry.at built f h at same in
+    elim c.in_default.branch [
+      | in_default-via-in-Some+else-begins_with v ↦
           let begins = v.begins_with.ensures.1 (named_begins words name v.in-Some.letters.now c.args.entry.at c.args.i c.args.word named v.in-Some.ensures.letters word_is) in
           let no : v.begins_with.result ≡ false = v.if-begins_with.false in
           cc
-        | in_default-via-in_default v ↦ let none = v.in_default.ensures.letters in omega (arith, none, low)
-      ])
+      | in_default-via-in_default v ↦ let none = v.in_default.ensures.letters in omega (arith, none, low)
+    ])

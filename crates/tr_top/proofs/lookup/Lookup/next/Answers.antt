@@ -1,15 +1,12 @@
-use Rattle.std.proofs.Common.{◌≡◌, ◌≢◌, ℕ, ◌+◌, ◌*◌, ◌/◌, ◌%◌, ◌^◌, ◌<◌, ◌≤◌, List, [], ◌∷◌, length, take, drop, get_or, Contains, Bool, true, false, ap, sym, subst, ◌∙◌, refl, arith, rules, inl, inr}
-use Rattle.pm_words.specs.Word.{Word}
+use Rattle.std.proofs.Common.{◌≡◌, ℕ, ◌<◌, length, ap, sym, subst, ◌∙◌, arith, inl, inr}
 use Rattle.pm_words.specs.Memory.{IsAddress}
-use Rattle.tr_types.specs.Layout.{bucket_head, bucket_of, entry_target, name_length, name_word}
+use Rattle.tr_types.specs.Layout.{bucket_head, bucket_of}
 use Rattle.tr_types.specs.Denotes.{value, dir_of}
-use Rattle.tr_types.specs.declared.action.Answer.{Answer}
 use Rattle.tr_types.specs.declared.action.Answer.TheVariants as answer
 use Rattle.tr_top.specs.declared.lookup.Asked.TheVariants as look
-use Rattle.tr_top.specs.Laid.{FileAt, IsBuilt}
-use Rattle.tr_top.specs.Looking.{Walks, Agrees, LookKnows, LookGives}
-use Rattle.tr_top.proofs.Places.{head_address, entry_word, entry_address, entry_near}
-use Rattle.tr_top.proofs.LookLemmas.{walks_first, walks_at, walks_end, at_place, at_named, name_word_address, agrees_more, named_begins, agrees_all, entry_found, found_file, named_file, knows_at}
+use Rattle.tr_top.specs.Looking.{Walks}
+use Rattle.tr_top.proofs.Places.{head_address}
+use Rattle.tr_top.proofs.LookLemmas.{walks_first, found_file, knows_at}
 use Rattle.tr_top.proofs.lookup.Lookup.next.Goals as goal
 
 pub returns-in-Nothing-clause-gives : goal.returns-in-Nothing-clause-gives
@@ -17,15 +14,16 @@ returns-in-Nothing-clause-gives c words roles files built dir some short k =
     let name = c.args.name.now in
     let low : bucket_of name < 256 = omega arith in
     let at : c.bucket_head-head_at.result ≡ bucket_head (dir_of words) (bucket_of name)
-        = c.bucket_head-head_at.ensures ∙ ap (λ (d : ℕ). bucket_head d c.bucket_of.result) dir ∙ ap (bucket_head (dir_of words)) c.bucket_of.ensures in
-    (subst (IsAddress (length words)) (sym at) (head_address words (bucket_of name) built.size low),
-     subst (λ (a : ℕ). Walks words name files (value words a) (value words a)) (sym at) (walks_first words roles files name built))
+    = c.bucket_head-head_at.ensures ∙ ap (λ (d : ℕ). bucket_head d c.bucket_of.result) dir ∙ ap (bucket_head (dir_of words)) c.bucket_of.ensures in (
+      subst (IsAddress (length words)) (sym at) (head_address words (bucket_of name) built.size low),
+      subst (λ (a : ℕ). Walks words name files (value words a) (value words a)) (sym at) (walks_first words roles files name built),
+    )
 
 pub returns-in-Nothing-asked-clause-gives : goal.returns-in-Nothing-asked-clause-gives
 returns-in-Nothing-asked-clause-gives c words roles files built dir some short k =
     let name = c.args.name.now in
     elim c.in-Nothing-asked.is [
-      inl e ↦ absurd (c.in_default.not-Nothing e)
+      | inl e ↦ absurd (c.in_default.not-Nothing e)
       | inr e ↦ c.follow.ensures.gives name words roles files built (knows_at c.args.self.now.asked look.Head c.args.answer.now (answer.Word c.in-Some.word) name words files e c.in-Some.ensures k)
     ]
 
