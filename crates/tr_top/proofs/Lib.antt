@@ -20,15 +20,9 @@ mod CallRuns
 mod LineRuns
 -- how a run ends
 mod Endings
--- the names of a path of one name
-mod NameLaws
--- what stands in the tree of some files
-mod TreeLaws
--- words that are built of files denote their tree
-mod DenoteLaws
--- how the words of a new image lie
-mod NewLaws
--- pages that are given to the root coffer
-mod GivenLaws
--- what lies in a coffer that grows
-mod EnlargeLaws
+-- addresses of words of the root coffer
+mod Places
+-- what a look-up knows, step by step
+mod LookLemmas
+-- what a count knows, step by step
+mod CountLemmas

@@ -1,4 +1,11 @@
 // Counting the names of a directory, one load at a time.
+ghost use Rattle.std.specs.Prelude.{◌≡◌, ℕ, ◌+◌, ◌^◌, ◌<◌, List, length};
+ghost use Rattle.pm_words.specs.Word.{Word};
+ghost use Rattle.tr_types.specs.Denotes.{dir_of};
+ghost use Rattle.tr_types.specs.declared.action.Answer.{Answer};
+ghost use Rattle.tr_top.specs.Laid.{Role, FileAt, IsBuilt};
+ghost use Rattle.tr_top.specs.Looking.{count_below, Counts, CountKnows, CountGives};
+
 use crate::link::{Addr, Link, loaded};
 use tr_types::Answer;
 use tr_types::layout::bucket_head;
@@ -32,7 +39,10 @@ pub(crate) enum CountStep {
 }
 
 impl Count {
-    pub fn begin(dir: Addr) -> Count {
+    pub fn begin(dir: Addr) -> Count
+        ensures dir { result.dir ≡ dir }
+        ensures begins { (first : Answer) (words : List Word) (files : List FileAt) → CountKnows result first words files }
+    {
         Count {
             dir,
             bucket: 0,
@@ -42,7 +52,12 @@ impl Count {
     }
 
     /// Goes on with the answer to the last load. The first call has no use for its answer.
-    pub fn next(&mut self, answer: &Answer) -> CountStep {
+    pub fn next(&mut self, answer: &Answer) -> CountStep
+        ensures dir { self.new.dir ≡ self.old.dir }
+        ensures gives { (words : List Word) (roles : ℕ → Role) (files : List FileAt) → IsBuilt words roles files
+            → length files < 2 ^ 63 → self.old.dir.at ≡ dir_of words
+            → CountKnows self.old answer.now words files → CountGives self.new words files result }
+    {
         let head_at = bucket_head(self.dir.at, self.bucket);
         let from = match self.asked {
             Asked::Nothing => {
@@ -52,18 +67,37 @@ impl Count {
             Asked::Head => head_at,
             Asked::Next(entry) => entry.at,
         };
-        match loaded(answer).map(Link::of) {
-            Some(Link::End) => self.next_bucket(),
-            Some(Link::To(entry)) => {
+        match loaded(answer) {
+            Some(word) => self.follow(word, from),
+            None => CountStep::Damaged(from),
+        }
+    }
+
+    // Goes on to the entry that the word loaded from `from` leads to.
+    fn follow(&mut self, word: u64, from: u64) -> CountStep
+        ensures dir { self.new.dir ≡ self.old.dir }
+        ensures gives { (words : List Word) (roles : ℕ → Role) (files : List FileAt) → IsBuilt words roles files
+            → length files < 2 ^ 63 → self.old.dir.at ≡ dir_of words → Counts words files self.old.bucket self.old.names word
+            → CountGives self.new words files result }
+    {
+        match Link::of(word) {
+            Link::End => self.next_bucket(),
+            Link::To(entry) => {
                 self.names = self.names.saturating_add(1);
                 self.asked = Asked::Next(entry);
                 CountStep::Load(entry.at)
             }
-            Some(Link::Astray) | None => CountStep::Damaged(from),
+            Link::Astray => CountStep::Damaged(from),
         }
     }
 
-    fn next_bucket(&mut self) -> CountStep {
+    // Goes on with the next bucket, once all names of this one are counted.
+    fn next_bucket(&mut self) -> CountStep
+        ensures dir { self.new.dir ≡ self.old.dir }
+        ensures gives { (words : List Word) (roles : ℕ → Role) (files : List FileAt) → IsBuilt words roles files
+            → self.old.dir.at ≡ dir_of words → self.old.names ≡ count_below (self.old.bucket + 1) files
+            → CountGives self.new words files result }
+    {
         if self.bucket == u8::MAX {
             return CountStep::Counted(self.names);
         }

@@ -1,6 +1,5 @@
 // The names of entries, in words of eight letters.
-ghost use Rattle.std.specs.Prelude.{◌≡◌, ◌*◌, ◌≤◌, ◌<◌, length, take, drop, MatchOption, OnSome};
-ghost use Rattle.tr_top.specs.Plans.{letters_word};
+ghost use Rattle.std.specs.Prelude.{◌≡◌, ◌↔◌, ℕ, ◌*◌, ◌/◌, ◌%◌, ◌^◌, ◌≤◌, ◌<◌, length, take, drop, slice_index, IsTrue, MatchOption, OnSome};
 
 use byteorder::{ByteOrder, LittleEndian};
 
@@ -38,6 +37,7 @@ pub(crate) fn word_of_letters(letters: &[u8]) -> u64
 /// Whether a word begins with at most eight letters. What stands behind them doesn't count.
 pub(crate) fn begins_with(word: u64, letters: &[u8]) -> bool
     requires { length letters.now ≤ 8 }
+    ensures { IsTrue result ↔ ((k : ℕ) → k < length letters.now → slice_index letters.now k ≡ word / 256 ^ k % 256) }
 {
     let mut bytes = [0u8; LETTERS];
     LittleEndian::write_u64(&mut bytes, word);
