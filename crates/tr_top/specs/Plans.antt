@@ -1,6 +1,6 @@
 -- The stores of a plan that makes an empty file, in order, each an address and its new word. Its commit comes after
 -- them: the store of the entry's address into the head of the name's bucket.
-use Rattle.std.specs.Prelude.{ℕ, ◌+◌, ◌*◌, ◌/◌, List, [], ◌∷◌, ◌++◌, length, map, take, drop}
+use Rattle.std.specs.Prelude.{ℕ, ◌+◌, ◌*◌, ◌/◌, List, [], ◌∷◌, ◌++◌, length, map, take, drop, Option, slice_get}
 use Rattle.std.specs.List.{range_with_len}
 use Rattle.tr_types.specs.Layout.{bucket_head, bucket_of, entry_place, entry_target, first_entry_page, first_free_entry, name_length, name_word}
 
@@ -35,3 +35,7 @@ fresh_page_pairs dir head name page first file =
 -- the store by which the file comes about
 abbrev pub commit_pair : ℕ → List ℕ → ℕ → ℕ × ℕ
 commit_pair dir name entry = (bucket_head dir (bucket_of name), entry)
+
+-- the store that comes behind the first `made` ones of a plan, none behind its commit
+abbrev pub pair_at : List (ℕ × ℕ) → ℕ × ℕ → ℕ → Option (ℕ × ℕ)
+pair_at prepares commit made = slice_get (prepares ++ commit ∷ []) made

@@ -1,5 +1,6 @@
 // The names of entries, in words of eight letters.
 ghost use Rattle.std.specs.Prelude.{◌≡◌, ◌*◌, ◌≤◌, ◌<◌, length, take, drop, MatchOption};
+ghost use Rattle.tr_top.specs.Plans.{letters_word};
 
 use byteorder::{ByteOrder, LittleEndian};
 
@@ -26,6 +27,7 @@ pub(crate) fn letters_at(name: &[u8], i: u32) -> Option<&[u8]>
 /// The word of at most eight letters, the first one lowest, with zeros behind them.
 pub(crate) fn word_of_letters(letters: &[u8]) -> u64
     requires { length letters.now ≤ 8 }
+    ensures { result ≡ letters_word letters.now }
 {
     let mut bytes = [0u8; LETTERS];
     bytes[..letters.len()].copy_from_slice(letters);

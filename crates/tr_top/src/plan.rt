@@ -1,5 +1,7 @@
 // The stores of a change: those that prepare it, and the one by which it comes about.
-ghost use Rattle.std.specs.Prelude.{◌≡◌, ◌<◌, ◌^◌};
+ghost use Rattle.std.specs.Prelude.{◌≡◌, ◌<◌, ◌≤◌, ◌+◌, ◌-◌, ◌^◌, ◌++◌, min, length, IfOk, OnOk};
+ghost use Rattle.tr_types.specs.Layout as layout;
+ghost use Rattle.tr_top.specs.Plans as spec;
 
 use crate::letters::{letters_at, word_of_letters};
 use crate::link::Addr;
@@ -44,12 +46,22 @@ pub(crate) struct PlanRun {
 }
 
 impl PlanRun {
-    pub fn begin(plan: Plan) -> PlanRun {
+    pub fn begin(plan: Plan) -> PlanRun
+        ensures prepares { result.plan.prepares.items ≡ plan.prepares.items }
+        ensures commit { result.plan.commit ≡ plan.commit }
+        ensures made { result.made ≡ 0 }
+    {
         PlanRun { plan, made: 0 }
     }
 
     /// The next store, none where all are made.
-    pub fn next(&mut self) -> Option<(u64, u64)> {
+    pub fn next(&mut self) -> Option<(u64, u64)>
+        ensures pair { result ≡ spec.pair_at self.old.plan.prepares.items self.old.plan.commit self.old.made }
+        ensures made { self.new.made ≡ min (self.old.made + 1) (2 ^ 64 - 1) }
+        ensures counted { self.old.made ≤ length self.old.plan.prepares.items → self.new.made ≡ self.old.made + 1 }
+        ensures prepares { self.new.plan.prepares.items ≡ self.old.plan.prepares.items }
+        ensures commit { self.new.plan.commit ≡ self.old.plan.commit }
+    {
         let at = self.made;
         self.made = at.saturating_add(1);
         if at == self.plan.prepares.len() {
@@ -75,7 +87,11 @@ pub(crate) fn plan_in_free_entry(
     entry: Addr,
     next: u64,
     file: u32,
-) -> Result<Plan, AllocError> {
+) -> Result<Plan, AllocError>
+    ensures prepares { length name.now ≤ 255 → IfOk result (λ plan.
+        plan.prepares.items ≡ spec.free_entry_pairs bucket.dir.at bucket.head name.now entry.at next (layout.page_at file)) }
+    ensures commit { IfOk result (λ plan. plan.commit ≡ spec.commit_pair bucket.dir.at name.now entry.at) }
+{
     let file = page_at(file);
     let mut prepares = vec![in alloc; (file, KIND_FILE), (first_free_entry(bucket.dir.at), next)]?;
     prepare_entry(&mut prepares, entry, bucket.head, file, name)?;
@@ -94,7 +110,12 @@ pub(crate) fn plan_in_fresh_page(
     page: u32,
     first: u64,
     file: u32,
-) -> Result<Plan, AllocError> {
+) -> Result<Plan, AllocError>
+    ensures prepares { length name.now ≤ 255 → IfOk result (λ plan.
+        plan.prepares.items ≡ spec.fresh_page_pairs bucket.dir.at bucket.head name.now (layout.page_at page) first (layout.page_at file)) }
+    ensures commit { IfOk result (λ plan.
+        plan.commit ≡ spec.commit_pair bucket.dir.at name.now (layout.entry_place (layout.page_at page) 0)) }
+{
     let page = page_at(page);
     let file = page_at(file);
     let entry = Addr {
@@ -120,7 +141,10 @@ fn prepare_entry(
     next: u64,
     target: u64,
     name: &[u8],
-) -> Result<(), AllocError> {
+) -> Result<(), AllocError>
+    ensures { length name.now ≤ 255 →
+        OnOk result (prepares.new.items ≡ prepares.old.items ++ spec.entry_pairs entry.at next target name.now) }
+{
     prepares.push((entry.at, next))?;
     prepares.push((entry_target(entry.at), target))?;
     prepares.push((name_length(entry.at), name.len() as u64))?;
