@@ -20,3 +20,9 @@ mod CallRuns
 mod LineRuns
 -- how a run ends
 mod Endings
+-- the word of up to eight letters, byte by byte
+mod LettersLemmas
+-- how a plan grows, pair by pair
+mod PlanPairs
+-- what the stores of a plan leave
+mod PlanLemmas

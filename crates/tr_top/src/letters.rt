@@ -1,5 +1,5 @@
 // The names of entries, in words of eight letters.
-ghost use Rattle.std.specs.Prelude.{◌≡◌, ◌*◌, ◌≤◌, ◌<◌, length, take, drop, MatchOption};
+ghost use Rattle.std.specs.Prelude.{◌≡◌, ◌*◌, ◌≤◌, ◌<◌, length, take, drop, MatchOption, OnSome};
 ghost use Rattle.tr_top.specs.Plans.{letters_word};
 
 use byteorder::{ByteOrder, LittleEndian};
@@ -9,8 +9,9 @@ const LETTERS: usize = 8;
 
 /// The letters of a name in its word `i`: eight, or fewer at its end, or none behind it.
 pub(crate) fn letters_at(name: &[u8], i: u32) -> Option<&[u8]>
-    ensures { MatchOption result (length name.now ≤ 8 * i)
+    ensures letters { MatchOption result (length name.now ≤ 8 * i)
         (λ letters. letters.now ≡ take 8 (drop (8 * i) name.now)) }
+    ensures some { OnSome result (8 * i < length name.now) }
 {
     let start = LETTERS * i as usize;
     if start >= name.len() {
