@@ -10,7 +10,7 @@ loop-i-preserved c =
     let pair : ℕ → ℕ × ℕ = λ (i : ℕ). (entry_place page i, entry_place page (i + 1)) in
     let start : List (ℕ × ℕ) = (c.page_at-file.result, 1) ∷ (page, c.args.first) ∷ [] in
     let here : c.loop-i.i ≡ c.loop-i.i - 1 + 1 = omega (arith, c.loop-i.auto.i) in
-    let behind = c.entry_place-in-loop-i-2.ensures ∙ ap (entry_place page) here in
+    let behind : c.entry_place-in-loop-i-2.result ≡ (pair (c.loop-i.i - 1)).1 = c.entry_place-in-loop-i-2.ensures ∙ ap (entry_place page) here in
     let pushed = c.in_ok-push.ensures.items ∙ ap₂ (λ (from : ℕ) (to : ℕ). c.loop-i.prepares.items ++ (from, to) ∷ []) c.entry_place-in-loop-i.ensures behind in
     one_pair_more pair start c.loop-i.prepares.items _ 1 (c.loop-i.i - 2) _ (c.loop-i.i - 1) (omega (arith, c.loop-i.auto.i)) (omega (arith, c.loop-i.auto.i)) c.loop-i.invariant pushed
 
