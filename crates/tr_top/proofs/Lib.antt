@@ -26,3 +26,5 @@ mod LettersLemmas
 mod PlanPairs
 -- what the stores of a plan leave
 mod PlanLemmas
+-- what a plan leaves in the words, whole
+mod PlanStores

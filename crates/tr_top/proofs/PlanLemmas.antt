@@ -174,11 +174,11 @@ entry_kept pairs words entry next target name aligned short out has =
     }
 
 -- the entry whose words are stored last
-pub named_after : (front behind : List (ℕ × ℕ)) (entry next target : ℕ) (name : List ℕ) (words : List Word) → entry % 8 ≡ 0 → entry / 8 + 40 ≤ length words → length name ≤ 255 → ((k : ℕ) → k < length name → slice_index name k < 256) → AreOutside entry (entry + 320) behind → HasEntry (stored_all (front ++ (entry_pairs entry next target name ++ behind)) words) entry next target name
+pub named_after : (front behind : List (ℕ × ℕ)) (entry next target : ℕ) (name : List ℕ) (words : List Word) → entry % 8 ≡ 0 → entry / 8 + 40 ≤ length words → length name ≤ 255 → ((k : ℕ) → k < length name → slice_index name k < 256) → AreOutside entry (entry + 320) behind → HasEntry (stored_all (front ++ entry_pairs entry next target name ++ behind) words) entry next target name
 named_after front behind entry next target name words aligned room short bytes out =
     let pairs : List (ℕ × ℕ) = entry_pairs entry next target name in
     let len : length (stored_all front words) ≡ length words = length_stored_all front words in
-    let parts = stored_all-append front (pairs ++ behind) words ∙ stored_all-append pairs behind (stored_all front words) in
+    let parts = stored_all-append (front ++ pairs) behind words ∙ ap (stored_all behind) (stored_all-append front pairs words) in
     subst (λ (new : List Word). HasEntry new entry next target name) (sym parts)
     (entry_kept behind (stored_all pairs (stored_all front words)) entry next target name aligned short out
       (entry_stored entry next target name (stored_all front words) aligned (omega (arith, len)) short bytes))
