@@ -1,6 +1,6 @@
 -- The word of up to eight letters, byte by byte.
 use Rattle.std.proofs.Common.{◌≡◌, ℕ, zero, suc, ◌+◌, ◌-◌, ◌*◌, ◌/◌, ◌%◌, ◌^◌, ◌<◌, ◌≤◌, List, [], ◌∷◌, ◌++◌, length, drop, replicate, slice_index, refl, sym, ap, ◌∙◌, arith}
-use Rattle.std.proofs.Math.Nat.{add-mul-div_left, div-div-eq-div-mul, div-one, pow-le-pow_right, pow-succ'}
+use Rattle.std.proofs.Math.Nat.{div-div-eq-div-mul, pow-le-pow_right, pow-succ'}
 use Rattle.std.proofs.lemmas.List.{drop-replicate}
 use Rattle.byteorder.specs.Endian.{little_from, little_number}
 use Rattle.byteorder.specs.Numbers.{little_from-cons}
@@ -45,7 +45,7 @@ letter_at (letter ∷ letters) bytes (suc k) lt =
     let first : letter < 256 = bytes 0 (omega arith) in
     let lower : (letter + 256 * letters_word letters) / 256 ≡ letters_word letters = omega arith in
     let shift : (letter + 256 * letters_word letters) / 256 ^ suc k ≡ letters_word letters / 256 ^ k =
-      ap (λ (p : ℕ). (letter + 256 * letters_word letters) / p) (pow-succ' 256 k)
-      ∙ sym (div-div-eq-div-mul (letter + 256 * letters_word letters) 256 (256 ^ k))
-      ∙ ap (λ (n : ℕ). n / 256 ^ k) lower in
+    ap (λ (p : ℕ). (letter + 256 * letters_word letters) / p) (pow-succ' 256 k)
+    ∙ sym (div-div-eq-div-mul (letter + 256 * letters_word letters) 256 (256 ^ k))
+    ∙ ap (λ (n : ℕ). n / 256 ^ k) lower in
     ap (λ (n : ℕ). n % 256) shift ∙ letter_at letters (λ j below. bytes (suc j) (omega arith)) k (omega arith)

@@ -1,5 +1,5 @@
 -- What a plan's stores leave, whole: the entry, the other words that are stored, and all words as they were.
-use Rattle.std.proofs.Common.{◌≡◌, ◌≢◌, ◌⊎◌, ℕ, zero, suc, ◌+◌, ◌*◌, ◌/◌, ◌%◌, ◌<◌, ◌≤◌, List, [], ◌∷◌, ◌++◌, length, map, slice_index, refl, sym, subst, ap, ◌∙◌, inl, inr, arith}
+use Rattle.std.proofs.Common.{◌≡◌, ◌≢◌, ◌⊎◌, ℕ, zero, suc, ◌+◌, ◌*◌, ◌/◌, ◌%◌, ◌<◌, ◌≤◌, List, [], ◌∷◌, ◌++◌, length, map, slice_index, sym, subst, ap, ◌∙◌, inl, inr, arith}
 use Rattle.std.proofs.lemmas.Bool.{cases_eq, cases_lt}
 use Rattle.std.specs.List.{range_with_len}
 use Rattle.pm_words.specs.Word.{Word}
@@ -7,9 +7,9 @@ use Rattle.pm_words.specs.Memory.{store_at, IsAddress}
 use Rattle.pm_words.proofs.WordLemmas.{length_store_at}
 use Rattle.tr_types.specs.Layout.{page_at, entry_place, first_entry_page, first_free_entry}
 use Rattle.tr_types.specs.Denotes.{value}
-use Rattle.tr_top.specs.Plans.{entry_pairs, link_pairs, free_entry_pairs, fresh_page_pairs}
+use Rattle.tr_top.specs.Plans.{entry_pairs, free_entry_pairs, fresh_page_pairs}
 use Rattle.tr_top.specs.Laid.{stored_all}
-use Rattle.tr_top.proofs.PlanLemmas.{HasEntry, AreAside, AreOutside, length_stored_all, stored_all-append, stored_all_last, stored_all_aside, aside-append, aside_from_outside, entry_stored, entry_outside, named_after}
+use Rattle.tr_top.proofs.PlanLemmas.{HasEntry, AreAside, length_stored_all, stored_all-append, stored_all_last, stored_all_aside, aside-append, aside_from_outside, entry_stored, entry_outside, named_after}
 
 -- what the stores in a free entry leave, with the directory on page d and the file on page f
 pub record FreeEntryStored (words new : List Word) (d head : ℕ) (name : List ℕ) (at next f : ℕ) : Type 0 where
@@ -50,7 +50,7 @@ free_entry_stored d p f i pages head next name words size d_in p_in f_in dp df p
       kind = stored_all_last [] ((free, next) ∷ pairs) words file 1 (record { aligned = omega arith; inside = omega arith }) (omega arith, (λ same. omega arith), entry_aside file entry head file name aligned short (apart file p f i (omega arith) (omega arith) pf place));
       frees = stored_all_last ((file, 1) ∷ []) pairs words free next (record { aligned = omega arith; inside = omega arith }) (entry_aside free entry head file name aligned short (apart free p d i (omega arith) (omega arith) (λ same. dp (sym same)) place));
       kept = λ addr at not_file not_free out.
-        stored_all_aside (start ++ pairs) words addr at (omega arith, (λ same. not_file (sym same)), (omega arith, (λ same. not_free (sym same)), entry_aside addr entry head file name aligned short out));
+          stored_all_aside (start ++ pairs) words addr at (omega arith, (λ same. not_file (sym same)), (omega arith, (λ same. not_free (sym same)), entry_aside addr entry head file name aligned short out));
     }
 
 -- what the stores in a fresh entry page leave, with the directory on page d, the entries on page p and the file on page f
@@ -85,8 +85,10 @@ link_stored page start (suc count) j behind words aligned inside low high aside 
   where
     rest : List (ℕ × ℕ)
     rest = links_from page (start + 1) count ++ behind
+
     IsThere : ℕ → Type 0
     IsThere i = value (stored_all ((entry_place page start, entry_place page (start + 1)) ∷ rest) words) (entry_place page i) ≡ entry_place page (i + 1)
+
     by : (j ≡ start) ⊎ (j ≢ start) → ((j ≢ start) → IsThere j) → IsThere j
     by (inl same) later =
         let at : IsAddress (length words) (entry_place page start) = record { aligned = omega arith; inside = subst (λ (i : ℕ). entry_place page i / 8 < length words) same inside } in
@@ -132,10 +134,16 @@ heads_other addr d q page low high other = by (other_page addr d q low high othe
 fresh_aside : (addr d p f head behind : ℕ) (name : List ℕ) → length name ≤ 255 → page_at f ≢ addr → page_at p ≢ addr → AreAside addr (heads (page_at d) (page_at p)) → (addr < entry_place (page_at p) 0) ⊎ (entry_place (page_at p) 11 ≤ addr)
     → AreAside addr (fresh_page_pairs (page_at d) head name (page_at p) behind (page_at f))
 unfolding links_from heads
-fresh_aside addr d p f head behind name short not_file not_page tops out =
-    (omega arith, not_file, (omega arith, not_page,
-      aside-append addr (links_from (page_at p) 1 10 ++ entry_pairs (entry_place (page_at p) 0) head (page_at f) name) (heads (page_at d) (page_at p))
-      (filled_aside addr p head (page_at f) name short out) tops))
+fresh_aside addr d p f head behind name short not_file not_page tops out = (
+  omega arith,
+  not_file,
+  (
+    omega arith,
+    not_page,
+    aside-append addr (links_from (page_at p) 1 10 ++ entry_pairs (entry_place (page_at p) 0) head (page_at f) name) (heads (page_at d) (page_at p))
+        (filled_aside addr p head (page_at f) name short out) tops,
+  ),
+)
 
 pub fresh_page_stored : (d p f pages head behind : ℕ) (name : List ℕ) (words : List Word) → length words ≡ 512 * pages → d < pages → p < pages → f < pages → d ≢ p → d ≢ f → p ≢ f → length name ≤ 255 → ((k : ℕ) → k < length name → slice_index name k < 256)
     → FreshPageStored words (stored_all (fresh_page_pairs (page_at d) head name (page_at p) behind (page_at f)) words) d head name p behind f
@@ -159,28 +167,31 @@ fresh_page_stored d p f pages head behind name words size d_in p_in f_in dp df p
     record {
       len = length_stored_all all words;
       entry = named_after (begun ++ links) tops entry head file name words (omega arith) (omega arith) short bytes
-        (omega arith, apart (first_entry_page dir) p d 0 (omega arith) (omega arith) pd (omega arith), (omega arith, apart free p d 0 (omega arith) (omega arith) pd (omega arith), tt));
-      kind = stored_all_last [] ((page, behind) ∷ ((links ++ pairs) ++ tops)) words file 1 (record { aligned = omega arith; inside = omega arith })
-        (omega arith, (λ same. pf (omega (arith, same))),
-          aside-append file (links ++ pairs) tops (filled_aside file p head file name short (near (other_page file p f (omega arith) (omega arith) pf))) (heads_other file d f page (omega arith) (omega arith) df));
+          (omega arith, apart (first_entry_page dir) p d 0 (omega arith) (omega arith) pd (omega arith), (omega arith, apart free p d 0 (omega arith) (omega arith) pd (omega arith), tt));
+      kind = stored_all_last [] ((page, behind) ∷ ((links ++ pairs) ++ tops)) words file 1 (record { aligned = omega arith; inside = omega arith }) (
+        omega arith,
+        (λ same. pf (omega (arith, same))),
+        aside-append file (links ++ pairs) tops (filled_aside file p head file name short (near (other_page file p f (omega arith) (omega arith) pf))) (heads_other file d f page (omega arith) (omega arith) df),
+      );
       goes_on = stored_all_last ((file, 1) ∷ []) ((links ++ pairs) ++ tops) words page behind (record { aligned = omega arith; inside = omega arith })
-        (aside-append page (links ++ pairs) tops (filled_aside page p head file name short (inl (omega arith))) (on_page page (omega arith) (omega arith)));
+          (aside-append page (links ++ pairs) tops (filled_aside page p head file name short (inl (omega arith))) (on_page page (omega arith) (omega arith)));
       links = λ i low high.
-        link_stored page 1 10 i (pairs ++ tops) (stored_all begun words) (omega arith) (omega (arith, begun_len)) low (omega arith)
-        (aside-append (entry_place page i) pairs tops (entry_aside (entry_place page i) entry head file name (omega arith) short (inr (omega arith))) (on_page (entry_place page i) (omega arith) (omega arith)));
+          link_stored page 1 10 i (pairs ++ tops) (stored_all begun words) (omega arith) (omega (arith, begun_len)) low (omega arith)
+          (aside-append (entry_place page i) pairs tops (entry_aside (entry_place page i) entry head file name (omega arith) short (inr (omega arith))) (on_page (entry_place page i) (omega arith) (omega arith)));
       last = stored_all_aside all words (entry_place page 11) (omega arith)
-        (fresh_aside (entry_place page 11) d p f head behind name short (λ same. pf (omega (arith, same))) (λ same. omega arith) (on_page (entry_place page 11) (omega arith) (omega arith)) (inr (omega arith)));
+          (fresh_aside (entry_place page 11) d p f head behind name short (λ same. pf (omega (arith, same))) (λ same. omega arith) (on_page (entry_place page 11) (omega arith) (omega arith)) (inr (omega arith)));
       first = stored_all_last front ((free, entry_place page 1) ∷ []) words (first_entry_page dir) page (record { aligned = omega arith; inside = omega arith }) (omega arith, (λ same. omega arith), tt);
       frees = ap (λ (new : List Word). value new free) (stored_all-append front tops words)
-        ∙ stored_all_last ((first_entry_page dir, page) ∷ []) [] (stored_all front words) free (entry_place page 1) (record { aligned = omega arith; inside = omega (arith, front_len) }) tt;
+          ∙ stored_all_last ((first_entry_page dir, page) ∷ []) [] (stored_all front words) free (entry_place page 1) (record { aligned = omega arith; inside = omega (arith, front_len) }) tt;
       kept = λ addr at not_file not_first not_free out.
-        stored_all_aside all words addr at
-        (fresh_aside addr d p f head behind name short (λ same. not_file (sym same)) (not_at out) (heads_aside addr d page (λ same. not_first (sym same)) (λ same. not_free (sym same))) (near out));
+          stored_all_aside all words addr at
+          (fresh_aside addr d p f head behind name short (λ same. not_file (sym same)) (not_at out) (heads_aside addr d page (λ same. not_first (sym same)) (λ same. not_free (sym same))) (near out));
     }
   where
     near : {addr : ℕ} → (addr < page_at p) ⊎ (page_at p + 4096 ≤ addr) → (addr < entry_place (page_at p) 0) ⊎ (entry_place (page_at p) 11 ≤ addr)
     near (inl before) = inl (omega arith)
     near (inr behind) = inr (omega arith)
+
     not_at : {addr : ℕ} → (addr < page_at p) ⊎ (page_at p + 4096 ≤ addr) → page_at p ≢ addr
     not_at (inl before) = λ same. omega arith
     not_at (inr behind) = λ same. omega arith

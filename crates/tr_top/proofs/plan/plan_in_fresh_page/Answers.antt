@@ -1,4 +1,4 @@
-use Rattle.std.proofs.Common.{◌≡◌, ◌+◌, ◌-◌, ◌∷◌, ◌++◌, [], List, ℕ, length, ap, ap₂, ◌∙◌, arith}
+use Rattle.std.proofs.Common.{◌≡◌, ◌+◌, ◌-◌, ◌∷◌, ◌++◌, [], List, ℕ, ap, ap₂, ◌∙◌, arith}
 use Rattle.tr_types.specs.Layout.{entry_place, first_entry_page, first_free_entry}
 use Rattle.tr_top.specs.Plans.{entry_pairs, fresh_page_pairs}
 use Rattle.tr_top.proofs.PlanPairs.{one_pair_more, fresh_page_made}

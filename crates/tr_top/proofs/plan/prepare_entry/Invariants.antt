@@ -7,5 +7,5 @@ use Rattle.tr_top.proofs.plan.prepare_entry.Given as goal
 abbrev pub invariant-loop-i : goal.invariant-loop-i
 invariant-loop-i l = record {
   words : l.prepares.items ≡ l.initial.prepares.items ++ map (λ i. (name_word l.entry.at i, letters_word (take 8 (drop (8 * i) l.name)))) (range_with_len 0 l.i);
-  begun : 8 * l.i < length l.name + 8
+  begun : 8 * l.i < length l.name + 8;
 }
