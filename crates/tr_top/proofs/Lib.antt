@@ -20,9 +20,11 @@ mod CallRuns
 mod LineRuns
 -- how a run ends
 mod Endings
--- addresses of words of the root coffer
-mod Places
--- what a look-up knows, step by step
-mod LookLemmas
--- what a count knows, step by step
-mod CountLemmas
+-- the word of up to eight letters, byte by byte
+mod LettersLemmas
+-- how a plan grows, pair by pair
+mod PlanPairs
+-- what the stores of a plan leave
+mod PlanLemmas
+-- what a plan leaves in the words, whole
+mod PlanStores
