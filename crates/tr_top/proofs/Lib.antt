@@ -20,3 +20,5 @@ mod CallRuns
 mod LineRuns
 -- how a run ends
 mod Endings
+-- what a store aside of the tree's words leaves
+mod KeepLaws
