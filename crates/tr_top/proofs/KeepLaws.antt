@@ -122,7 +122,7 @@ entries_are_files b (f ∷ files) e has = by (bucket_of f.name == b) (λ among. 
     by true rest among = first rest (contains_cases f.entry e (entries_in b files) among)
     by false rest among = later (rest among)
 
-entry_held : (words new : List Word) (files : List FileAt) (f : FileAt) → Held words files new → Contains files f → value new f.entry ≡ value words f.entry
+pub entry_held : (words new : List Word) (files : List FileAt) (f : FileAt) → Held words files new → Contains files f → value new f.entry ≡ value words f.entry
 entry_held words new files f h has =
     let start : f.entry ≡ word_of f.entry 0 = omega arith in
     ap (λ (a : ℕ). value new a) start ∙ h.entries f has 0 (omega arith) ∙ ap (λ (a : ℕ). value words a) (sym start)

@@ -22,3 +22,11 @@ mod LineRuns
 mod Endings
 -- what a store aside of the tree's words leaves
 mod KeepLaws
+-- the word of up to eight letters, byte by byte
+mod LettersLemmas
+-- what the stores of a plan leave
+mod PlanLemmas
+-- where the stores of a plan go
+mod PairLaws
+-- how a commit leaves the words of the coffer
+mod CommitLaws
