@@ -123,25 +123,26 @@ built_more words roles files f head is b new leads others = record {
     -- the old chain of a bucket
     old : (i : ℕ) (at : ℕ) → i < 256 → at ≡ value words (bucket_head (dir_of words) i) → Chain after at (entries_in i files)
     old i at lt at_is = subst (λ (a : ℕ). Chain after a (entries_in i files)) (sym at_is)
-      (chain_held words after (f ∷ files) (value words (bucket_head (dir_of words) i)) (entries_in i files) held
-      (λ e has. first_word i e has) (b.heads i lt))
+        (chain_held words after (f ∷ files) (value words (bucket_head (dir_of words) i)) (entries_in i files) held
+        (λ e has. first_word i e has) (b.heads i lt))
       where
         first_word : (i e : ℕ) → Contains (entries_in i files) e → value after e ≡ value words e
         first_word i e has =
-          let found = entries_are_files i files e has in
-          subst (λ (x : ℕ). value after x ≡ value words x) found.2 (entry_held words after (f ∷ files) found.0 held (contains_tail f found.0 files found.1))
+            let found = entries_are_files i files e has in
+            subst (λ (x : ℕ). value after x ≡ value words x) found.2 (entry_held words after (f ∷ files) found.0 held (contains_tail f found.0 files found.1))
 
     bucket : (i : ℕ) → i < 256 → (bucket_of f.name ≡ i) ⊎ (bucket_of f.name ≡ i → ⊥) → Chain after (value after (bucket_head (dir_of words) i)) (entries_in i (f ∷ files))
     bucket i lt (inl here) =
-      subst (λ (t : Bool). Chain after (value after (bucket_head (dir_of words) i)) (if t then f.entry ∷ entries_in i files else entries_in i files)) (sym (eq-eqb (bucket_of f.name) i here))
-      (let at : bucket_head (dir_of words) i ≡ head = ap (λ (n : ℕ). bucket_head (dir_of words) n) (sym here) ∙ sym is in
-      let address : IsAddress (length words) head = subst (λ (a : ℕ). IsAddress (length words) a) (sym is) (head_address words (bucket_of f.name) b.size low) in
-      (ap (λ (a : ℕ). value after a) at ∙ value_stored head f.entry words address,
-      place_held words after (f ∷ files) f.entry held (place_is words roles f.entry new.place),
-      old i (value after f.entry) lt (entry_held words after (f ∷ files) f held (contains_head f files) ∙ leads ∙ ap (λ (a : ℕ). value words a) (sym at))))
+        subst (λ (t : Bool). Chain after (value after (bucket_head (dir_of words) i)) (if t then f.entry ∷ entries_in i files else entries_in i files)) (sym (eq-eqb (bucket_of f.name) i here))
+        (let at : bucket_head (dir_of words) i ≡ head = ap (λ (n : ℕ). bucket_head (dir_of words) n) (sym here) ∙ sym is in
+        let address : IsAddress (length words) head = subst (λ (a : ℕ). IsAddress (length words) a) (sym is) (head_address words (bucket_of f.name) b.size low) in (
+          ap (λ (a : ℕ). value after a) at ∙ value_stored head f.entry words address,
+          place_held words after (f ∷ files) f.entry held (place_is words roles f.entry new.place),
+          old i (value after f.entry) lt (entry_held words after (f ∷ files) f held (contains_head f files) ∙ leads ∙ ap (λ (a : ℕ). value words a) (sym at)),
+        ))
     bucket i lt (inr other) =
-      subst (λ (t : Bool). Chain after (value after (bucket_head (dir_of words) i)) (if t then f.entry ∷ entries_in i files else entries_in i files)) (sym (ne_eqb (bucket_of f.name) i other))
-      (old i (value after (bucket_head (dir_of words) i)) lt (value_other head f.entry (bucket_head (dir_of words) i) words aligned (omega arith) (λ same_head. other (omega (arith, is)))))
+        subst (λ (t : Bool). Chain after (value after (bucket_head (dir_of words) i)) (if t then f.entry ∷ entries_in i files else entries_in i files)) (sym (ne_eqb (bucket_of f.name) i other))
+        (old i (value after (bucket_head (dir_of words) i)) lt (value_other head f.entry (bucket_head (dir_of words) i) words aligned (omega arith) (λ same_head. other (omega (arith, is)))))
 
 pub head_held : (words : List Word) (roles : ℕ → Role) (files : List FileAt) (b x : ℕ) → IsBuilt words roles files → b < 256 → Held words files (store_at (bucket_head (dir_of words) b) x words)
 head_held words roles files b x built lt = held_stored words roles files (bucket_head (dir_of words) b) x built.each (head_apart words roles files b built.each lt)
@@ -210,8 +211,8 @@ pub plan_leaves_rest : (words : List Word) (pairs : List (ℕ × ℕ)) (head x :
 plan_leaves_rest words pairs head x all at = record {
   len = length_store_at head x (stored_all pairs words) ∙ length_stored_all pairs words;
   beyond = λ addr aligned apart.
-    value_through pairs words head x addr aligned (aside_all (IsOurs words) addr pairs (λ other o. (ours_aligned words other o, apart other o)) all)
-    (ours_aligned words head at) (λ same. apart head at (sym same));
+      value_through pairs words head x addr aligned (aside_all (IsOurs words) addr pairs (λ other o. (ours_aligned words other o, apart other o)) all)
+      (ours_aligned words head at) (λ same. apart head at (sym same));
 }
 
 owner_left : (words after : List Word) (page : ℕ) → LeavesRest words after → page < pages_of words → owner_of after page ≡ owner_of words page
@@ -228,12 +229,12 @@ laid_after words after roles new files files' frees frees' laid l same_role buil
   free = free;
   pool = ap (λ (n : ℕ). value after (pool_head (page_at (root_control n)) 0)) same ∙ l.beyond (pool_head (control_of words) 0) (omega arith) (λ other o is. omega (arith, o.is, o.low)) ∙ laid.pool;
   spare = λ page lt none.
-    let was = laid.spare page (inside page lt) (before page lt none) in
-    (same_role page (inside page lt) (before page lt none) ∙ was.0, subst (λ (n : ℕ). root_page n < page) (sym same) was.1);
+      let was = laid.spare page (inside page lt) (before page lt none) in
+      (same_role page (inside page lt) (before page lt none) ∙ was.0, subst (λ (n : ℕ). root_page n < page) (sym same) was.1);
   blank = λ page i lt none within.
-    l.beyond (word_of (page_at page) i) (omega arith)
-    (λ other o is. o.owned (ap (λ (p : ℕ). owner_of words p) (same_page page i o.page o.word within o.within (sym o.is ∙ is)) ∙ before page lt none))
-    ∙ laid.blank page i (inside page lt) (before page lt none) within;
+      l.beyond (word_of (page_at page) i) (omega arith)
+      (λ other o is. o.owned (ap (λ (p : ℕ). owner_of words p) (same_page page i o.page o.word within o.within (sym o.is ∙ is)) ∙ before page lt none))
+      ∙ laid.blank page i (inside page lt) (before page lt none) within;
 }
   where
     same : pages_of after ≡ pages_of words

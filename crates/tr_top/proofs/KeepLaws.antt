@@ -222,13 +222,13 @@ pub data IsAside (words : List Word) (roles : ℕ → Role) (files : List FileAt
   InFree : IsFreeWord words roles files addr → IsAside words roles files addr
 
 -- pages with different roles are different pages
-spare_differs : (roles : ℕ → Role) (page other : ℕ) → roles page ≡ Spare → roles other ≡ Entries → other ≢ page
+pub spare_differs : (roles : ℕ → Role) (page other : ℕ) → roles page ≡ Spare → roles other ≡ Entries → other ≢ page
 spare_differs roles page other one two same = let r : roles other ≡ roles page = ap roles same in absurd (cc)
 
-spare_no_file : (roles : ℕ → Role) (page other entry : ℕ) → roles page ≡ Spare → roles other ≡ FilePage entry → other ≢ page
+pub spare_no_file : (roles : ℕ → Role) (page other entry : ℕ) → roles page ≡ Spare → roles other ≡ FilePage entry → other ≢ page
 spare_no_file roles page other entry one two same = let r : roles other ≡ roles page = ap roles same in absurd (cc)
 
-file_differs : (roles : ℕ → Role) (page other entry : ℕ) → roles page ≡ Entries → roles other ≡ FilePage entry → other ≢ page
+pub file_differs : (roles : ℕ → Role) (page other entry : ℕ) → roles page ≡ Entries → roles other ≡ FilePage entry → other ≢ page
 file_differs roles page other entry one two same = let r : roles other ≡ roles page = ap roles same in absurd (cc)
 
 -- words of one entry are no words of another

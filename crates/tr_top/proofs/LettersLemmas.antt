@@ -45,7 +45,7 @@ letter_at (letter ∷ letters) bytes (suc k) lt =
     let first : letter < 256 = bytes 0 (omega arith) in
     let lower : (letter + 256 * letters_word letters) / 256 ≡ letters_word letters = omega arith in
     let shift : (letter + 256 * letters_word letters) / 256 ^ suc k ≡ letters_word letters / 256 ^ k =
-      ap (λ (p : ℕ). (letter + 256 * letters_word letters) / p) (pow-succ' 256 k)
-      ∙ sym (div-div-eq-div-mul (letter + 256 * letters_word letters) 256 (256 ^ k))
-      ∙ ap (λ (n : ℕ). n / 256 ^ k) lower in
+    ap (λ (p : ℕ). (letter + 256 * letters_word letters) / p) (pow-succ' 256 k)
+    ∙ sym (div-div-eq-div-mul (letter + 256 * letters_word letters) 256 (256 ^ k))
+    ∙ ap (λ (n : ℕ). n / 256 ^ k) lower in
     ap (λ (n : ℕ). n % 256) shift ∙ letter_at letters (λ j below. bytes (suc j) (omega arith)) k (omega arith)

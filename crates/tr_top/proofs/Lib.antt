@@ -30,3 +30,5 @@ mod PlanLemmas
 mod PairLaws
 -- how a commit leaves the words of the coffer
 mod CommitLaws
+-- a file whose entry stands in a free place
+mod FreeSpotLaws

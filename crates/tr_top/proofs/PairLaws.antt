@@ -55,12 +55,16 @@ pub fresh_pairs_at : (P : ℕ → Type 0) (dir head : ℕ) (name : List ℕ) (pa
     → AllAt P (fresh_page_pairs dir head name page first file)
 fresh_pairs_at P dir head name page first file short at_file each at_page at_free =
     let start : word_of page 0 ≡ page = omega arith in
-    let last : List (ℕ × ℕ) = (first_entry_page dir, page) ∷ (first_free_entry dir, entry_place page 1) ∷ [] in
-    (at_file, (subst P start (each 0 (omega arith)),
-    all_at-append P (link_pairs page) (entry_pairs (entry_place page 0) head file name ++ last) (link_pairs_at P page (λ i low high. each (32 + 40 * i) (omega arith)))
-    (all_at-append P (entry_pairs (entry_place page 0) head file name) last
-    (entry_pairs_at P (entry_place page 0) head file name short (λ j lt. subst P (place_word j) (each (32 + j) (omega arith))))
-    (at_page, (at_free, tt)))))
+    let last : List (ℕ × ℕ) = (first_entry_page dir, page) ∷ (first_free_entry dir, entry_place page 1) ∷ [] in (
+      at_file,
+      (
+        subst P start (each 0 (omega arith)),
+        all_at-append P (link_pairs page) (entry_pairs (entry_place page 0) head file name ++ last) (link_pairs_at P page (λ i low high. each (32 + 40 * i) (omega arith)))
+            (all_at-append P (entry_pairs (entry_place page 0) head file name) last
+            (entry_pairs_at P (entry_place page 0) head file name short (λ j lt. subst P (place_word j) (each (32 + j) (omega arith))))
+            (at_page, (at_free, tt))),
+      ),
+    )
   where
     place_word : (j : ℕ) → word_of page (32 + j) ≡ word_of (entry_place page 0) j
     place_word j = omega arith

@@ -98,8 +98,10 @@ name_word_stored f entry start (suc count) j words aligned inside low high =
   where
     rest : List (ℕ × ℕ)
     rest = map (λ i. (name_word entry i, f i)) (range_with_len (start + 1) count)
+
     IsThere : ℕ → Type 0
     IsThere i = value (stored_all ((name_word entry start, f start) ∷ rest) words) (name_word entry i) ≡ f i
+
     by : (j ≡ start) ⊎ (j ≢ start) → ((j ≢ start) → IsThere j) → IsThere j
     by (inl same) later =
         let at : IsAddress (length words) (name_word entry start) = record { aligned = omega arith; inside = omega arith } in
@@ -132,9 +134,9 @@ letter_of_word name bytes k lt =
     let within : k % 8 < length (piece name (k / 8)) = omega (arith, len) in
     let whole : 8 * (k / 8) + k % 8 ≡ k = omega arith in
     letter_at (piece name (k / 8)) (λ j below.
-      let low : j < 8 = omega (arith, len) in
-      let inside : 8 * (k / 8) + j < length name = omega (arith, len) in
-      subst (λ (n : ℕ). n < 256) (sym (piece_at name (k / 8) j low)) (bytes (8 * (k / 8) + j) inside)) (k % 8) within
+    let low : j < 8 = omega (arith, len) in
+    let inside : 8 * (k / 8) + j < length name = omega (arith, len) in
+    subst (λ (n : ℕ). n < 256) (sym (piece_at name (k / 8) j low)) (bytes (8 * (k / 8) + j) inside)) (k % 8) within
     ∙ piece_at name (k / 8) (k % 8) (omega arith)
     ∙ ap (slice_index name) whole
 
@@ -152,8 +154,8 @@ entry_stored entry next target name words aligned room short bytes =
       named = record {
         len = stored_all_last ((entry, next) ∷ (entry_target entry, target) ∷ []) letters words (name_length entry) (length name) (record { aligned = omega arith; inside = omega arith }) (apart (name_length entry) (omega arith));
         letters = λ k lt.
-          sym (ap (λ (w : ℕ). w / 256 ^ (k % 8) % 256) (name_word_stored f entry 0 count (k / 8) (stored_all start words) aligned (omega (arith, len)) (omega arith) (omega arith))
-          ∙ letter_of_word name bytes k lt);
+            sym (ap (λ (w : ℕ). w / 256 ^ (k % 8) % 256) (name_word_stored f entry 0 count (k / 8) (stored_all start words) aligned (omega (arith, len)) (omega arith) (omega arith))
+            ∙ letter_of_word name bytes k lt);
       };
       leads = stored_all_last [] ((entry_target entry, target) ∷ (name_length entry, length name) ∷ letters) words entry next (record { aligned = aligned; inside = omega arith }) (omega arith, (λ same. omega arith), (omega arith, (λ same. omega arith), apart entry (omega arith)));
       aims = stored_all_last ((entry, next) ∷ []) ((name_length entry, length name) ∷ letters) words (entry_target entry) target (record { aligned = omega arith; inside = omega arith }) (omega arith, (λ same. omega arith), apart (entry_target entry) (omega arith));
@@ -167,7 +169,7 @@ entry_kept pairs words entry next target name aligned short out has =
       named = record {
         len = kept (name_length entry) (omega arith) (omega arith) (omega arith) ∙ has.named.len;
         letters = λ k lt. has.named.letters k lt
-          ∙ sym (ap (λ (w : ℕ). w / 256 ^ (k % 8) % 256) (kept (name_word entry (k / 8)) (omega arith) (omega arith) (omega arith)));
+            ∙ sym (ap (λ (w : ℕ). w / 256 ^ (k % 8) % 256) (kept (name_word entry (k / 8)) (omega arith) (omega arith) (omega arith)));
       };
       leads = kept entry aligned (omega arith) (omega arith) ∙ has.leads;
       aims = kept (entry_target entry) (omega arith) (omega arith) (omega arith) ∙ has.aims;
@@ -181,14 +183,34 @@ named_after front behind entry next target name words aligned room short bytes o
     let parts = stored_all-append front (pairs ++ behind) words ∙ stored_all-append pairs behind (stored_all front words) in
     subst (λ (new : List Word). HasEntry new entry next target name) (sym parts)
     (entry_kept behind (stored_all pairs (stored_all front words)) entry next target name aligned short out
-      (entry_stored entry next target name (stored_all front words) aligned (omega (arith, len)) short bytes))
+    (entry_stored entry next target name (stored_all front words) aligned (omega (arith, len)) short bytes))
 
 -- the words of an entry lie in its 40 words
 pub entry_outside : (from to entry next target : ℕ) (name : List ℕ) → entry % 8 ≡ 0 → length name ≤ 255 → (to ≤ entry) ⊎ (entry + 320 ≤ from) → AreOutside from to (entry_pairs entry next target name)
 unfolding name_pairs
-entry_outside from to entry next target name aligned short (inl before) =
-    (aligned, inr before, (omega arith, inr (omega arith), (omega arith, inr (omega arith),
-      name_pairs_outside (λ i. letters_word (take 8 (drop (8 * i) name))) from to entry 0 ((length name + 7) / 8) aligned (inl (omega arith)))))
-entry_outside from to entry next target name aligned short (inr behind) =
-    (aligned, inl (omega arith), (omega arith, inl (omega arith), (omega arith, inl (omega arith),
-      name_pairs_outside (λ i. letters_word (take 8 (drop (8 * i) name))) from to entry 0 ((length name + 7) / 8) aligned (inr (omega arith)))))
+entry_outside from to entry next target name aligned short (inl before) = (
+  aligned,
+  inr before,
+  (
+    omega arith,
+    inr (omega arith),
+    (
+      omega arith,
+      inr (omega arith),
+      name_pairs_outside (λ i. letters_word (take 8 (drop (8 * i) name))) from to entry 0 ((length name + 7) / 8) aligned (inl (omega arith)),
+    ),
+  ),
+)
+entry_outside from to entry next target name aligned short (inr behind) = (
+  aligned,
+  inl (omega arith),
+  (
+    omega arith,
+    inl (omega arith),
+    (
+      omega arith,
+      inl (omega arith),
+      name_pairs_outside (λ i. letters_word (take 8 (drop (8 * i) name))) from to entry 0 ((length name + 7) / 8) aligned (inr (omega arith)),
+    ),
+  ),
+)
