@@ -32,3 +32,5 @@ mod PairLaws
 mod CommitLaws
 -- a file whose entry stands in a free place
 mod FreeSpotLaws
+-- a file whose entry stands in a fresh entry page
+mod FreshSpotLaws

@@ -51,23 +51,30 @@ free_pairs_at P dir head name entry next file short at_file at_free each = (at_f
 pub link_pairs_at : (P : ℕ → Type 0) (page : ℕ) → ((i : ℕ) → 1 ≤ i → i < 11 → P (entry_place page i)) → AllAt P (link_pairs page)
 link_pairs_at P page each = all_at-range P (λ (i : ℕ). (entry_place page i, entry_place page (i + 1))) 10 1 (λ i low high. each i low high)
 
-pub fresh_pairs_at : (P : ℕ → Type 0) (dir head : ℕ) (name : List ℕ) (page first file : ℕ) → length name ≤ 255 → P file → ((i : ℕ) → i < 512 → P (word_of page i)) → P (first_entry_page dir) → P (first_free_entry dir)
-    → AllAt P (fresh_page_pairs dir head name page first file)
-fresh_pairs_at P dir head name page first file short at_file each at_page at_free =
+-- the stores of the second plan behind its first one, to the file's page
+abbrev pub pairs_behind_file : ℕ → ℕ → List ℕ → ℕ → ℕ → ℕ → List (ℕ × ℕ)
+pairs_behind_file dir head name page first file =
+    (page, first) ∷ link_pairs page ++ entry_pairs (entry_place page 0) head file name
+    ++ (first_entry_page dir, page) ∷ (first_free_entry dir, entry_place page 1) ∷ []
+
+-- they leave the words of the page from its last place on
+pub behind_file_at : (P : ℕ → Type 0) (dir head : ℕ) (name : List ℕ) (page first file : ℕ) → length name ≤ 255 → ((i : ℕ) → i < 472 → P (word_of page i)) → P (first_entry_page dir) → P (first_free_entry dir)
+    → AllAt P (pairs_behind_file dir head name page first file)
+behind_file_at P dir head name page first file short each at_page at_free =
     let start : word_of page 0 ≡ page = omega arith in
-    let last : List (ℕ × ℕ) = (first_entry_page dir, page) ∷ (first_free_entry dir, entry_place page 1) ∷ [] in (
-      at_file,
-      (
-        subst P start (each 0 (omega arith)),
-        all_at-append P (link_pairs page) (entry_pairs (entry_place page 0) head file name ++ last) (link_pairs_at P page (λ i low high. each (32 + 40 * i) (omega arith)))
-            (all_at-append P (entry_pairs (entry_place page 0) head file name) last
-            (entry_pairs_at P (entry_place page 0) head file name short (λ j lt. subst P (place_word j) (each (32 + j) (omega arith))))
-            (at_page, (at_free, tt))),
-      ),
-    )
+    let last : List (ℕ × ℕ) = (first_entry_page dir, page) ∷ (first_free_entry dir, entry_place page 1) ∷ [] in
+    (subst P start (each 0 (omega arith)),
+    all_at-append P (link_pairs page) (entry_pairs (entry_place page 0) head file name ++ last) (link_pairs_at P page (λ i low high. each (32 + 40 * i) (omega arith)))
+    (all_at-append P (entry_pairs (entry_place page 0) head file name) last
+    (entry_pairs_at P (entry_place page 0) head file name short (λ j lt. subst P (place_word j) (each (32 + j) (omega arith))))
+    (at_page, (at_free, tt))))
   where
     place_word : (j : ℕ) → word_of page (32 + j) ≡ word_of (entry_place page 0) j
     place_word j = omega arith
+
+pub fresh_pairs_at : (P : ℕ → Type 0) (dir head : ℕ) (name : List ℕ) (page first file : ℕ) → length name ≤ 255 → P file → ((i : ℕ) → i < 472 → P (word_of page i)) → P (first_entry_page dir) → P (first_free_entry dir)
+    → AllAt P (fresh_page_pairs dir head name page first file)
+fresh_pairs_at P dir head name page first file short at_file each at_page at_free = (at_file, behind_file_at P dir head name page first file short each at_page at_free)
 
 -- The value at an address that the plan and its commit leave.
 pub value_through : (pairs : List (ℕ × ℕ)) (words : List Word) (head x addr : ℕ) → addr % 8 ≡ 0 → AreAside addr pairs → head % 8 ≡ 0 → addr ≢ head → value (store_at head x (stored_all pairs words)) addr ≡ value words addr
