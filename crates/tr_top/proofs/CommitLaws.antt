@@ -82,8 +82,12 @@ head_apart words roles files b each lt = record {
   maps = λ f has same. let h = each f has in omega (arith, h.past);
 }
 
-head_address : (words : List Word) (b : ℕ) → IsPages (length words) (pages_of words) → b < 256 → IsAddress (length words) (bucket_head (dir_of words) b)
+-- its address is one of the memory's, and not the kernel's
+pub head_address : (words : List Word) (b : ℕ) → IsPages (length words) (pages_of words) → b < 256 → IsAddress (length words) (bucket_head (dir_of words) b)
 head_address words b size lt = record { aligned = omega arith; inside = let whole = size.whole in let least = size.least in omega arith }
+
+pub head_behind : (words : List Word) (b : ℕ) → control_of words ≤ bucket_head (dir_of words) b
+head_behind words b = omega arith
 
 -- a file whose entry leads to the first one of its bucket becomes the first one
 pub built_more : (words : List Word) (roles : ℕ → Role) (files : List FileAt) (f : FileAt) (head : ℕ) → head ≡ bucket_head (dir_of words) (bucket_of f.name) → IsBuilt words roles files → HasFile words roles f → value words f.entry ≡ value words head

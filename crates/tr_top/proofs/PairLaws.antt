@@ -33,6 +33,27 @@ pub aside_all : (P : ℕ → Type 0) (addr : ℕ) (pairs : List (ℕ × ℕ)) �
 aside_all P addr [] f all = tt
 aside_all P addr (p ∷ ps) f all = let one = f p.0 all.0 in (one.0, one.1, aside_all P addr ps f all.1)
 
+-- One store after the other, where the commit stands behind the others.
+
+-- the address of one that comes before the commit
+pub pair_at-holds : (P : ℕ → Type 0) (pairs : List (ℕ × ℕ)) (commit p : ℕ × ℕ) (k : ℕ) → AllAt P pairs → k < length pairs → slice_get (pairs ++ commit ∷ []) k ≡ Some p → P p.0
+pair_at-holds P [] commit p k all lt found = absurd (omega arith)
+pair_at-holds P (x ∷ pairs) commit p zero all lt found = let same : x ≡ p = cc in subst (λ (y : ℕ × ℕ). P y.0) same all.0
+pair_at-holds P (x ∷ pairs) commit p (suc k) all lt found = pair_at-holds P pairs commit p k all.1 (omega arith) found
+
+-- the memory after it
+pub pair_at-stored : (pairs : List (ℕ × ℕ)) (commit p : ℕ × ℕ) (k : ℕ) (words : List Word) → k < length pairs → slice_get (pairs ++ commit ∷ []) k ≡ Some p → stored_all (take (suc k) pairs) words ≡ store_at p.0 p.1 (stored_all (take k pairs) words)
+pair_at-stored [] commit p k words lt found = absurd (omega arith)
+pair_at-stored (x ∷ pairs) commit p zero words lt found = let same : x ≡ p = cc in ap (λ (y : ℕ × ℕ). store_at y.0 y.1 words) same
+pair_at-stored (x ∷ pairs) commit p (suc k) words lt found = pair_at-stored pairs commit p k (store_at x.0 x.1 words) (omega arith) found
+
+-- behind them the commit comes, and then no more
+pub pair_at-last : (pairs : List (ℕ × ℕ)) (commit p : ℕ × ℕ) (k : ℕ) → length pairs ≤ k → slice_get (pairs ++ commit ∷ []) k ≡ Some p → (k ≡ length pairs) × (p ≡ commit)
+pair_at-last [] commit p zero le found = (omega arith, cc)
+pair_at-last [] commit p (suc k) le found = absurd (cc)
+pair_at-last (x ∷ pairs) commit p zero le found = absurd (omega arith)
+pair_at-last (x ∷ pairs) commit p (suc k) le found = let rest = pair_at-last pairs commit p k (omega arith) found in (omega (arith, rest.0), rest.1)
+
 -- The addresses of a plan.
 
 pub letter_pairs_at : (P : ℕ → Type 0) (entry : ℕ) (name : List ℕ) → length name ≤ 255 → ((j : ℕ) → j < 40 → P (word_of entry j)) → AllAt P (letter_pairs entry name)
