@@ -20,11 +20,17 @@ mod CallRuns
 mod LineRuns
 -- how a run ends
 mod Endings
+-- what a store aside of the tree's words leaves
+mod KeepLaws
 -- the word of up to eight letters, byte by byte
 mod LettersLemmas
--- how a plan grows, pair by pair
-mod PlanPairs
 -- what the stores of a plan leave
 mod PlanLemmas
--- what a plan leaves in the words, whole
-mod PlanStores
+-- where the stores of a plan go
+mod PairLaws
+-- how a commit leaves the words of the coffer
+mod CommitLaws
+-- a file whose entry stands in a free place
+mod FreeSpotLaws
+-- a file whose entry stands in a fresh entry page
+mod FreshSpotLaws
