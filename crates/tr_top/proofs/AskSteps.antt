@@ -115,7 +115,7 @@ module _ (coffer : Coffer) (command : Command) (head : ℕ) (spot : Spot) (words
 
   -- what the kernel answers, and what is known then
   answered : (answer : KernAnswer) → Answers words (Kernel (Enlarge 1 (spot_pages spot))) (Kern answer) → Goes coffer command (stage.Drawing head spot) Plain (Kernel (Enlarge 1 (spot_pages spot))) words tree (Runs command true None) (Kern answer)
-  answered (kern.Pages pages') (one, (enough, are)) = record {
+  answered (kern.Pages pages') (one, (least, (most, (enough, are)))) = record {
     legal = (refl, refl);
     denotes = ground_denotes coffer _ tree (ground new enough is);
     knows = (links new enough is, spot_by new enough is spot at, subst (AreDrawn new k.ground.roles spot) (sym are) (drawn_by new enough is spot refl), refl);
@@ -126,31 +126,31 @@ module _ (coffer : Coffer) (command : Command) (head : ℕ) (spot : Spot) (words
 
       is : new ≡ given_to 1 (take (spot_pages spot) (free_pages words)) words
       is = ap (λ l. given_to 1 l words) are
-  answered (kern.NoPages asked free) (one, (few, asks, frees)) = record {
+  answered (kern.NoPages asked free) (one, (least, (most, (few, asks, frees)))) = record {
     legal = (refl, refl);
     denotes = ground_denotes coffer words tree k.ground;
     knows = (k, asks, refl);
   }
-  answered kern.Done a = absurd a.1
-  answered kern.Same a = absurd a.1
-  answered (kern.Found first second) a = absurd a.1
-  answered (kern.Mapped mapped) a = absurd a.1
-  answered (kern.Made id) a = absurd a.1
-  answered kern.NotHeld a = absurd a.1
-  answered kern.BadPath a = absurd a.1
-  answered (kern.Denied right id len) a = absurd a.1
-  answered (kern.Quarantined id len) a = absurd a.1
-  answered (kern.InUse thread id len) a = absurd a.1
-  answered (kern.NoKey id len) a = absurd a.1
-  answered (kern.NotYours page) a = absurd a.1
-  answered (kern.GuardFailed addr word) a = absurd a.1
-  answered (kern.LinkDiffers addr word) a = absurd a.1
-  answered kern.Taken a = absurd a.1
-  answered kern.TooMany a = absurd a.1
-  answered kern.NoCoffer a = absurd a.1
-  answered kern.NotEmptyList a = absurd a.1
-  answered kern.BadCount a = absurd a.1
-  answered kern.NoMemory a = absurd a.1
+  answered kern.Done a = absurd a.3
+  answered kern.Same a = absurd a.3
+  answered (kern.Found first second) a = absurd a.3
+  answered (kern.Mapped mapped) a = absurd a.3
+  answered (kern.Made id) a = absurd a.3
+  answered kern.NotHeld a = absurd a.3
+  answered kern.BadPath a = absurd a.3
+  answered (kern.Denied right id len) a = absurd a.3
+  answered (kern.Quarantined id len) a = absurd a.3
+  answered (kern.InUse thread id len) a = absurd a.3
+  answered (kern.NoKey id len) a = absurd a.3
+  answered (kern.NotYours page) a = absurd a.3
+  answered (kern.GuardFailed addr word) a = absurd a.3
+  answered (kern.LinkDiffers addr word) a = absurd a.3
+  answered kern.Taken a = absurd a.3
+  answered kern.TooMany a = absurd a.3
+  answered kern.NoCoffer a = absurd a.3
+  answered kern.NotEmptyList a = absurd a.3
+  answered kern.BadCount a = absurd a.3
+  answered kern.NoMemory a = absurd a.3
 
   kernel_only : (P : Answer → Type 0) → ((answer : KernAnswer) → Answers words (Kernel (Enlarge 1 (spot_pages spot))) (Kern answer) → P (Kern answer)) → (answer : Answer) → Answers words (Kernel (Enlarge 1 (spot_pages spot))) answer → P answer
   kernel_only P p (WordIs x) a = absurd a

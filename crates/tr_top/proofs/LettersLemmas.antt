@@ -1,6 +1,6 @@
 -- The word of up to eight letters, byte by byte.
 use Rattle.std.proofs.Common.{◌≡◌, ℕ, zero, suc, ◌+◌, ◌-◌, ◌*◌, ◌/◌, ◌%◌, ◌^◌, ◌<◌, ◌≤◌, List, [], ◌∷◌, ◌++◌, length, drop, replicate, slice_index, refl, sym, ap, ◌∙◌, arith}
-use Rattle.std.proofs.Math.Nat.{add-mul-div_left, div-div-eq-div-mul, div-one, pow-le-pow_right, pow-succ'}
+use Rattle.std.proofs.Math.Nat.{div-div-eq-div-mul, pow-le-pow_right, pow-succ'}
 use Rattle.std.proofs.lemmas.List.{drop-replicate}
 use Rattle.byteorder.specs.Endian.{little_from, little_number}
 use Rattle.byteorder.specs.Numbers.{little_from-cons}

@@ -10,7 +10,7 @@ use Rattle.tr_top.specs.Laid.{Role, FileAt, IsBuilt, IsPlaceOf, entries_in}
 use Rattle.tr_types.specs.declared.action.Answer.{Answer}
 use Rattle.tr_top.specs.declared.lookup.Asked.{Asked as LookAsked}
 use Rattle.tr_top.specs.Looking.{Walks, Agrees, IsEntryOf, LookKnowsAt}
-use Rattle.tr_top.proofs.Places.{entry_word, entry_some}
+use Rattle.tr_top.proofs.EntryPlaces.{entry_word, entry_some}
 
 -- lists and what they contain
 

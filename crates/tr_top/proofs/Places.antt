@@ -1,41 +1,48 @@
--- Addresses of words of the root coffer: they are addresses of the memory, not 0, and low.
-use Rattle.std.proofs.Common.{◌≡◌, ℕ, ◌+◌, ◌*◌, ◌^◌, ◌<◌, ◌≤◌, List, length, subst, arith}
+-- Where the words of the root coffer lie: each is a word of the memory, at an address that is near and not 0.
+use Rattle.std.proofs.Common.{◌≡◌, ◌≢◌, ℕ, ◌+◌, ◌*◌, ◌/◌, ◌^◌, ◌<◌, ◌≤◌, List, [], ◌∷◌, length, map, Contains, refl, sym, ap, subst, ◌∙◌, arith}
+use Rattle.std.proofs.lemmas.Map.Steps.{length-le_from_distinct_below}
 use Rattle.pm_words.specs.Word.{Word}
 use Rattle.pm_words.specs.Memory.{IsAddress, IsPages}
-use Rattle.tr_types.specs.Layout.{page_at, word_of, root_page, bucket_head}
+use Rattle.tr_types.specs.Layout.{page_at, word_of, root_control, root_page, kernel_pages, journal_pages, owner_pages, bucket_head, bucket_of, first_free_entry, first_entry_page, pool_head, file_map}
 use Rattle.tr_types.specs.KernelView.{pages_of}
-use Rattle.tr_types.specs.Denotes.{dir_of, IsPlace}
+use Rattle.tr_types.specs.Denotes.{value, Chain, dir_of, control_of}
+use Rattle.tr_top.specs.Laid.{Role, FileAt, IsBuilt, IsLaid, IsPlaceOf, HasFile, AreFree}
 
--- the root page is one of the image
-pub root_inside : (pages : ℕ) → 64 ≤ pages → pages ≤ 16384 → root_page pages < pages
-root_inside pages least most = omega arith
+-- word i of a page of the memory
+pub page_word_inside : (words : List Word) (page i : ℕ) → IsPages (length words) (pages_of words) → page < pages_of words → i < 512 → IsAddress (length words) (word_of (page_at page) i)
+page_word_inside words page i size inside below = record { aligned = omega arith; inside = omega (arith, size.whole) }
 
--- a word of a page of the image
-pub page_word : (count pages page i : ℕ) → IsPages count pages → page < pages → i < 512 → IsAddress count (word_of (page_at page) i)
-page_word count pages page i size inside within = record { aligned = omega arith; inside = omega arith }
+-- the first word of a page
+pub page_inside : (words : List Word) (page : ℕ) → IsPages (length words) (pages_of words) → page < pages_of words → IsAddress (length words) (page_at page)
+page_inside words page size inside = record { aligned = omega arith; inside = omega (arith, size.whole) }
 
--- a bucket's first word
-pub head_address : (words : List Word) (b : ℕ) → IsPages (length words) (pages_of words) → b < 256 → IsAddress (length words) (bucket_head (dir_of words) b)
-head_address words b size low =
-    page_word (length words) (pages_of words) (root_page (pages_of words)) (256 + b) size (root_inside (pages_of words) size.least size.most) (omega arith)
+-- the control page and the root page are pages of the memory
+pub control_inside : (words : List Word) → IsPages (length words) (pages_of words) → root_control (pages_of words) < pages_of words
+control_inside words size = omega (arith, size.least)
 
--- a word of an entry
-pub entry_word : (words : List Word) (entry j : ℕ) → IsPages (length words) (pages_of words) → IsPlace words entry → j < 40 → IsAddress (length words) (word_of entry j)
-entry_word words entry j size p within =
-    let low : 32 + 40 * p.place + j < 512 = omega (arith, p.twelve) in
-    let at = page_word (length words) (pages_of words) p.page (32 + 40 * p.place + j) size p.coffers.inside low in
-    let same : word_of (page_at p.page) (32 + 40 * p.place + j) ≡ word_of entry j = omega (arith, p.is) in
-    subst (IsAddress (length words)) same at
+pub root_inside : (words : List Word) → IsPages (length words) (pages_of words) → root_page (pages_of words) < pages_of words
+root_inside words size = omega (arith, size.least)
 
--- an entry's first word
-pub entry_address : (words : List Word) (entry : ℕ) → IsPages (length words) (pages_of words) → IsPlace words entry → IsAddress (length words) entry
-entry_address words entry size p =
-    let same : word_of entry 0 ≡ entry = omega arith in
-    subst (IsAddress (length words)) same (entry_word words entry 0 size p (omega arith))
+-- words of the root page and of the control page
+pub dir_word_inside : (words : List Word) (dir i : ℕ) → IsPages (length words) (pages_of words) → dir ≡ dir_of words → i < 512 → IsAddress (length words) (word_of dir i)
+dir_word_inside words dir i size is below = subst (λ d. IsAddress (length words) (word_of d i)) (sym is) (page_word_inside words (root_page (pages_of words)) i size (root_inside words size) below)
 
--- no entry stands at 0, and none is past all images
-pub entry_some : (words : List Word) (entry : ℕ) → IsPlace words entry → 0 < entry
-entry_some words entry p = omega (arith, p.is)
+pub pool_inside : (words : List Word) (control : ℕ) → IsPages (length words) (pages_of words) → control ≡ control_of words → IsAddress (length words) (pool_head control 0)
+pool_inside words control size is = subst (λ d. IsAddress (length words) (pool_head d 0)) (sym is) (page_word_inside words (root_control (pages_of words)) 9 size (control_inside words size) (omega arith))
 
-pub entry_near : (words : List Word) (entry : ℕ) → IsPages (length words) (pages_of words) → IsPlace words entry → entry < 2 ^ 60
-entry_near words entry size p = omega (arith, p.is, p.twelve, p.coffers.inside, size.most)
+-- a place of an entry
+pub place_inside : (words : List Word) (roles : ℕ → Role) (entry : ℕ) → IsPages (length words) (pages_of words) → IsPlaceOf words roles entry → IsAddress (length words) entry
+place_inside words roles entry size p = subst (IsAddress (length words)) (sym p.is) (page_word_inside words p.page (32 + 40 * p.place) size p.coffers.inside (omega (arith, p.twelve)))
+
+pub place_some : (words : List Word) (roles : ℕ → Role) (entry : ℕ) → IsPlaceOf words roles entry → 0 < entry
+place_some words roles entry p = omega (arith, p.is)
+
+pub place_near : (words : List Word) (roles : ℕ → Role) (entry : ℕ) → IsPages (length words) (pages_of words) → IsPlaceOf words roles entry → entry < 2 ^ 60
+place_near words roles entry size p = omega (arith, p.is, p.twelve, p.coffers.inside, size.most)
+
+-- a file's page
+pub file_some : (words : List Word) (roles : ℕ → Role) (f : FileAt) → HasFile words roles f → 0 < page_at f.page
+file_some words roles f h = omega (arith, h.past)
+
+pub file_near : (words : List Word) (roles : ℕ → Role) (f : FileAt) → IsPages (length words) (pages_of words) → HasFile words roles f → page_at f.page < 2 ^ 60
+file_near words roles f size h = omega (arith, h.coffers.inside, size.most)

@@ -1,15 +1,15 @@
 -- What the stores of a plan leave: each word that they store, and all other words as they were.
-use Rattle.std.proofs.Common.{◌≡◌, ◌≢◌, ◌⊎◌, ℕ, zero, suc, ◌+◌, ◌-◌, ◌*◌, ◌/◌, ◌%◌, ◌^◌, ◌<◌, ◌≤◌, List, [], ◌∷◌, ◌++◌, length, map, take, drop, min, slice_index, refl, sym, subst, ap, ◌∙◌, inl, inr, arith}
+use Rattle.std.proofs.Common.{◌≡◌, ◌≢◌, ◌⊎◌, ℕ, zero, suc, ◌+◌, ◌-◌, ◌*◌, ◌/◌, ◌%◌, ◌^◌, ◌<◌, ◌≤◌, List, [], ◌∷◌, ◌++◌, length, map, take, drop, min, Some, None, get_or, slice_index, refl, sym, subst, ap, ◌∙◌, inl, inr, arith}
 use Rattle.std.proofs.lemmas.Bool.{cases_eq}
-use Rattle.std.proofs.lemmas.List.{append_assoc, get_or-take, get_or-drop, length-take, length-drop}
-use Rattle.std.proofs.lemmas.List.FromFn.{map-range_with_len_more}
+use Rattle.std.proofs.lemmas.List.{get_or_append_left, get_or_at, take_more, length-append, get_or-take, get_or-drop, length-take, length-drop}
+use Rattle.std.proofs.lemmas.Option.{get_or_from_slice_get, slice_get-get_or, slice_get_past}
 use Rattle.std.specs.List.{range_with_len}
 use Rattle.pm_words.specs.Word.{Word}
 use Rattle.pm_words.specs.Memory.{store_at, IsAddress}
 use Rattle.pm_words.proofs.WordLemmas.{length_store_at, word_at_stored, word_at_other}
 use Rattle.tr_types.specs.Layout.{entry_target, name_length, name_word}
 use Rattle.tr_types.specs.Denotes.{value, IsNamed}
-use Rattle.tr_top.specs.Plans.{letters_word, letter_pairs, entry_pairs}
+use Rattle.tr_top.specs.Plans.{letters_word, entry_pairs, pair_at}
 use Rattle.tr_top.specs.Laid.{stored_all}
 use Rattle.tr_top.proofs.LettersLemmas.{letter_at}
 
@@ -22,6 +22,23 @@ length_stored_all (p ∷ pairs) words = length_stored_all pairs (store_at p.0 p.
 pub stored_all-append : (front behind : List (ℕ × ℕ)) (words : List Word) → stored_all (front ++ behind) words ≡ stored_all behind (stored_all front words)
 stored_all-append [] behind words = refl
 stored_all-append (p ∷ front) behind words = stored_all-append front behind (store_at p.0 p.1 words)
+
+-- one more store of a plan
+pub stored_all_more : (prepares : List (ℕ × ℕ)) (commit p : ℕ × ℕ) (made : ℕ) (words : List Word) → made < length prepares → pair_at prepares commit made ≡ Some p → stored_all (take (made + 1) prepares) words ≡ store_at p.0 p.1 (stored_all (take made prepares) words)
+stored_all_more prepares commit p made words lt is =
+    let next : get_or prepares made p ≡ p = sym (get_or_append_left prepares (commit ∷ []) p made lt) ∙ get_or_from_slice_get (prepares ++ commit ∷ []) made p p is in
+    ap (λ (pairs : List (ℕ × ℕ)). stored_all pairs words) (take_more prepares made p lt)
+    ∙ stored_all-append (take made prepares) (get_or prepares made p ∷ []) words
+    ∙ ap (λ (q : ℕ × ℕ). store_at q.0 q.1 (stored_all (take made prepares) words)) next
+
+-- the commit comes behind all that prepares it, and nothing behind it
+pub pair_at_commit : (prepares : List (ℕ × ℕ)) (commit : ℕ × ℕ) (made : ℕ) → made ≡ length prepares → pair_at prepares commit made ≡ Some commit
+pair_at_commit prepares commit made end =
+    let within : made < length (prepares ++ commit ∷ []) = omega (arith, length-append prepares (commit ∷ [])) in
+    slice_get-get_or (prepares ++ commit ∷ []) made commit within ∙ ap Some (get_or_at prepares commit [] commit made (sym end))
+
+pub pair_at_over : (prepares : List (ℕ × ℕ)) (commit : ℕ × ℕ) (made : ℕ) → length prepares < made → pair_at prepares commit made ≡ None
+pair_at_over prepares commit made past = slice_get_past (prepares ++ commit ∷ []) made (omega (arith, length-append prepares (commit ∷ [])))
 
 -- each of these stores is to a word's address, and none to this one
 abbrev pub AreAside : ℕ → List (ℕ × ℕ) → Type 0
@@ -176,11 +193,11 @@ entry_kept pairs words entry next target name aligned short out has =
     }
 
 -- the entry whose words are stored last
-pub named_after : (front behind : List (ℕ × ℕ)) (entry next target : ℕ) (name : List ℕ) (words : List Word) → entry % 8 ≡ 0 → entry / 8 + 40 ≤ length words → length name ≤ 255 → ((k : ℕ) → k < length name → slice_index name k < 256) → AreOutside entry (entry + 320) behind → HasEntry (stored_all (front ++ (entry_pairs entry next target name ++ behind)) words) entry next target name
+pub named_after : (front behind : List (ℕ × ℕ)) (entry next target : ℕ) (name : List ℕ) (words : List Word) → entry % 8 ≡ 0 → entry / 8 + 40 ≤ length words → length name ≤ 255 → ((k : ℕ) → k < length name → slice_index name k < 256) → AreOutside entry (entry + 320) behind → HasEntry (stored_all (front ++ entry_pairs entry next target name ++ behind) words) entry next target name
 named_after front behind entry next target name words aligned room short bytes out =
     let pairs : List (ℕ × ℕ) = entry_pairs entry next target name in
     let len : length (stored_all front words) ≡ length words = length_stored_all front words in
-    let parts = stored_all-append front (pairs ++ behind) words ∙ stored_all-append pairs behind (stored_all front words) in
+    let parts = stored_all-append (front ++ pairs) behind words ∙ ap (stored_all behind) (stored_all-append front pairs words) in
     subst (λ (new : List Word). HasEntry new entry next target name) (sym parts)
     (entry_kept behind (stored_all pairs (stored_all front words)) entry next target name aligned short out
     (entry_stored entry next target name (stored_all front words) aligned (omega (arith, len)) short bytes))

@@ -182,8 +182,8 @@ StageKnows coffer command stage.Over answer words tree phase = ⊥
 -- the call knows what its stage asks for
 pub record Goes (coffer : Coffer) (command : Command) (stage : Stage) (mark : Mark) (action : Action) (words : List Word) (tree : List Member) (phase : Phase) (answer : Answer) : Type 0 where
   pub legal : IsLegalAct tree phase mark action answer
-  pub denotes : Denotes (acted action answer words) (changed mark tree phase)
-  pub knows : StageKnows coffer command stage answer (acted action answer words) (changed mark tree phase) (phase_after (pool_of words) tree mark action answer phase)
+  pub denotes : Denotes (acted action answer words) (changed mark answer tree phase)
+  pub knows : StageKnows coffer command stage answer (acted action answer words) (changed mark answer tree phase) (phase_after (pool_of words) tree mark action answer phase)
 
 abbrev pub ActGives : Coffer → Command → Stage → Mark → Action → List Word → List Member → Phase → Type 0
 ActGives coffer command stage mark action words tree phase =

@@ -12,8 +12,6 @@ pub mod Status
 pub mod Calls
 -- how the words of the root coffer lie
 pub mod Laid
--- what a look-up and a count know
-pub mod Looking
 -- the stores of a plan
 pub mod Plans
 -- what a look-up and a count know

@@ -1,5 +1,5 @@
 // The names of entries, in words of eight letters.
-ghost use Rattle.std.specs.Prelude.{◌≡◌, ◌*◌, ◌≤◌, ◌<◌, length, take, drop, MatchOption, OnSome};
+ghost use Rattle.std.specs.Prelude.{◌≡◌, ◌↔◌, ℕ, ◌*◌, ◌/◌, ◌%◌, ◌^◌, ◌≤◌, ◌<◌, length, take, drop, slice_index, IsTrue, MatchOption, OnSome};
 ghost use Rattle.tr_top.specs.Plans.{letters_word};
 
 use byteorder::{ByteOrder, LittleEndian};

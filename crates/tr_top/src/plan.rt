@@ -25,7 +25,9 @@ impl Spot {
 
     /// How many pages a new file takes with its entry here.
     pub fn pages(self) -> u32
-        ensures { result ≡ spot_pages self }
+        ensures exact { result ≡ spot_pages self }
+        ensures some { 1 ≤ result }
+        ensures few { result ≤ 2 }
     {
         match self {
             Spot::Free { .. } => 1,

@@ -71,12 +71,12 @@ grown tree (Runs command drained refused) = tree_after tree command
 grown tree phase = tree
 
 abbrev pub phase_after : ℕ → List Member → Mark → Action → Answer → Phase → Phase
-phase_after pool tree Commit action answer phase = committed tree phase
+phase_after pool tree Commit action Done phase = committed tree phase
 phase_after pool tree mark action answer phase = told pool phase action answer
 
-abbrev pub changed : Mark → List Member → Phase → List Member
-changed Commit tree phase = grown tree phase
-changed mark tree phase = tree
+abbrev pub changed : Mark → Answer → List Member → Phase → List Member
+changed Commit Done tree phase = grown tree phase
+changed mark answer tree phase = tree
 
 -- the head of the root coffer's pool
 abbrev pub pool_of : List Word → ℕ
@@ -87,7 +87,7 @@ abbrev pub stepped : World → Entry → World
 stepped w (entry.Call thread command) = record { machine = moved w.machine (entry.Call thread command); tree = w.tree; phases = put w.phases thread (Runs command false None); lost = w.lost }
 stepped w (entry.Act thread now mark action answer) = record {
   machine = moved w.machine (entry.Act thread now mark action answer);
-  tree = changed mark w.tree (w.phases thread);
+  tree = changed mark answer w.tree (w.phases thread);
   phases = put w.phases thread (phase_after (pool_of w.machine.words) w.tree mark action answer (w.phases thread));
   lost = w.lost;
 }

@@ -1,7 +1,7 @@
 use Rattle.std.proofs.Common.{◌≡◌, ℕ, ◌+◌, ◌<◌, sym, subst, arith}
 use Rattle.tr_types.specs.Denotes.{value}
 use Rattle.tr_top.specs.Looking.{Counts}
-use Rattle.tr_top.proofs.Places.{entry_address, entry_near}
+use Rattle.tr_top.proofs.EntryPlaces.{entry_address, entry_near}
 use Rattle.tr_top.proofs.CountLemmas.{counts_end, counts_one}
 use Rattle.tr_top.proofs.count.Count.follow.Goals as goal
 

@@ -5,7 +5,7 @@ use Rattle.tr_types.specs.Denotes.{value, dir_of}
 use Rattle.tr_types.specs.declared.action.Answer.TheVariants as answer
 use Rattle.tr_top.specs.declared.count.Asked.TheVariants as count
 use Rattle.tr_top.specs.Looking.{Counts}
-use Rattle.tr_top.proofs.Places.{head_address}
+use Rattle.tr_top.proofs.EntryPlaces.{head_address}
 use Rattle.tr_top.proofs.CountLemmas.{counts_first, count_knows_at}
 use Rattle.tr_top.proofs.count.Count.next.Goals as goal
 use Rattle.tr_top.proofs.count.Count.next.Goals.{in-Head, in-Next}

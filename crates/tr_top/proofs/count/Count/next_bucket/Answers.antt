@@ -3,7 +3,7 @@ use Rattle.pm_words.specs.Memory.{IsAddress}
 use Rattle.tr_types.specs.Layout.{bucket_head}
 use Rattle.tr_types.specs.Denotes.{value, dir_of}
 use Rattle.tr_top.specs.Looking.{count_below, Counts}
-use Rattle.tr_top.proofs.Places.{head_address}
+use Rattle.tr_top.proofs.EntryPlaces.{head_address}
 use Rattle.tr_top.proofs.CountLemmas.{count_all, counts_first}
 use Rattle.tr_top.proofs.count.Count.next_bucket.Goals as goal
 

@@ -2,7 +2,7 @@ use Rattle.std.proofs.Common.{◌<◌, length, ap, sym, subst, arith}
 use Rattle.pm_words.specs.Memory.{IsAddress}
 use Rattle.tr_types.specs.Denotes.{value}
 use Rattle.tr_top.specs.Looking.{Walks}
-use Rattle.tr_top.proofs.Places.{entry_word, entry_near}
+use Rattle.tr_top.proofs.EntryPlaces.{entry_word, entry_near}
 use Rattle.tr_top.proofs.LookLemmas.{walks_at, walks_end, at_place}
 use Rattle.tr_top.proofs.lookup.Lookup.follow.Goals as goal
 

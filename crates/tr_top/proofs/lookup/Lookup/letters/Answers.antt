@@ -1,7 +1,7 @@
 use Rattle.std.proofs.Common.{◌*◌, length, ap, sym, subst, arith}
 use Rattle.pm_words.specs.Memory.{IsAddress}
 use Rattle.tr_types.specs.Denotes.{value}
-use Rattle.tr_top.proofs.Places.{entry_word}
+use Rattle.tr_top.proofs.EntryPlaces.{entry_word}
 use Rattle.tr_top.proofs.LookLemmas.{walks_at, at_place, name_word_address, agrees_all, entry_found}
 use Rattle.tr_top.proofs.lookup.Lookup.letters.Goals as goal
 

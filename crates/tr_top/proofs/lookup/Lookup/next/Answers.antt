@@ -5,7 +5,7 @@ use Rattle.tr_types.specs.Denotes.{value, dir_of}
 use Rattle.tr_types.specs.declared.action.Answer.TheVariants as answer
 use Rattle.tr_top.specs.declared.lookup.Asked.TheVariants as look
 use Rattle.tr_top.specs.Looking.{Walks}
-use Rattle.tr_top.proofs.Places.{head_address}
+use Rattle.tr_top.proofs.EntryPlaces.{head_address}
 use Rattle.tr_top.proofs.LookLemmas.{walks_first, found_file, knows_at}
 use Rattle.tr_top.proofs.lookup.Lookup.next.Goals as goal
 

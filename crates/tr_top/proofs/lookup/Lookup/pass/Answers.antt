@@ -1,4 +1,4 @@
-use Rattle.tr_top.proofs.Places.{entry_address}
+use Rattle.tr_top.proofs.EntryPlaces.{entry_address}
 use Rattle.tr_top.proofs.LookLemmas.{walks_at, at_place}
 use Rattle.tr_top.proofs.lookup.Lookup.pass.Goals as goal
 
