@@ -1,15 +1,15 @@
 -- What the words are after a plan and its commit: one file more.
-use Rattle.std.proofs.Common.{◌≡◌, ◌≢◌, ◌⊎◌, inl, inr, ℕ, zero, suc, ◌+◌, ◌-◌, ◌*◌, ◌/◌, ◌%◌, ◌^◌, ◌<◌, ◌≤◌, Bool, true, false, List, [], ◌∷◌, ◌++◌, length, take, Contains, slice_index, slice_index_or, refl, sym, ap, subst, ◌∙◌, arith, if◌then◌else◌, ◌==◌, eq-eqb, ne_eqb}
+use Rattle.std.proofs.Common.{◌≡◌, ◌≢◌, ◌⊎◌, inl, inr, ℕ, ◌+◌, ◌*◌, ◌/◌, ◌%◌, ◌<◌, ◌≤◌, Bool, List, ◌∷◌, length, Contains, refl, sym, ap, subst, ◌∙◌, arith, if◌then◌else◌, ◌==◌, eq-eqb, ne_eqb}
 use Rattle.std.proofs.lemmas.Bool.{cases_eq}
-use Rattle.pm_words.specs.Word.{Word, settled, stored}
-use Rattle.pm_words.specs.Memory.{word_at, store_at, IsAddress, IsPages}
-use Rattle.pm_words.proofs.WordLemmas.{length_store_at, word_at_stored, word_at_other, other_place}
-use Rattle.tr_types.specs.Layout.{page_at, kernel_pages, owner_word, root_control, root_page, bucket_head, bucket_of, entry_place, entry_target, name_length, name_word, first_entry_page, first_free_entry, file_map, pool_head, word_of}
+use Rattle.pm_words.specs.Word.{Word}
+use Rattle.pm_words.specs.Memory.{store_at, IsAddress, IsPages}
+use Rattle.pm_words.proofs.WordLemmas.{length_store_at}
+use Rattle.tr_types.specs.Layout.{page_at, owner_word, root_control, root_page, bucket_head, bucket_of, first_free_entry, pool_head, word_of}
 use Rattle.tr_types.specs.KernelView.{pages_of, owner_of}
-use Rattle.tr_types.specs.Denotes.{value, control_of, dir_of, IsCofferPage, IsPlace, Chain, IsNamed}
-use Rattle.tr_top.specs.Laid.{Role, Spare, Control, Root, Entries, FilePage, FileAt, IsPlaceOf, HasFile, entries_in, AreDistinct, IsBuilt, AreFree, IsLaid, IsFresh, stored_all}
-use Rattle.tr_top.proofs.KeepLaws.{contains_head, contains_tail, contains_cases, entries_are_files, entry_held, place_held, value_stored, value_other, Held, Kept, IsApart, IsAside, held_stored, held_both, pages_held, owner_held, coffer_held, place_of_held, place_is, past_held, chain_held, entries_held, file_held, aside_no_head}
-use Rattle.tr_top.proofs.PlanLemmas.{AreAside, length_stored_all, stored_all_aside}
+use Rattle.tr_types.specs.Denotes.{value, control_of, dir_of, IsCofferPage, Chain}
+use Rattle.tr_top.specs.Laid.{Role, Spare, Control, Root, Entries, FilePage, FileAt, IsPlaceOf, HasFile, entries_in, IsBuilt, AreFree, IsLaid, stored_all}
+use Rattle.tr_top.proofs.KeepLaws.{contains_head, contains_tail, contains_cases, entries_are_files, entry_held, place_held, value_stored, value_other, Held, IsApart, IsAside, held_stored, pages_held, place_is, chain_held, file_held, aside_no_head}
+use Rattle.tr_top.proofs.PlanLemmas.{length_stored_all}
 use Rattle.tr_top.proofs.PairLaws.{AllAt, aside_all, value_through}
 
 -- Roles of more pages.

@@ -1,17 +1,16 @@
 -- A plan that makes a file in a free entry, and what the words are after its commit.
-use Rattle.std.proofs.Common.{◌≡◌, ◌≢◌, ◌⊎◌, inl, inr, ℕ, zero, suc, ◌+◌, ◌-◌, ◌*◌, ◌/◌, ◌%◌, ◌^◌, ◌<◌, ◌≤◌, Bool, true, false, List, [], ◌∷◌, ◌++◌, length, take, Contains, All, slice_index, slice_index_or, refl, sym, ap, subst, ◌∙◌, arith, append-nil}
-use Rattle.std.proofs.lemmas.List.Elements.{All-from_recursion}
+use Rattle.std.proofs.Common.{◌≡◌, ◌≢◌, ◌⊎◌, inl, inr, ℕ, ◌+◌, ◌/◌, ◌%◌, ◌<◌, ◌≤◌, List, [], ◌∷◌, length, take, Contains, slice_index, refl, sym, ap, subst, ◌∙◌, arith, append-nil}
 use Rattle.pm_words.specs.Word.{Word}
-use Rattle.pm_words.specs.Memory.{word_at, store_at, IsAddress, IsPages}
-use Rattle.tr_types.specs.Layout.{page_at, kernel_pages, root_control, root_page, bucket_head, bucket_of, entry_place, entry_target, first_entry_page, first_free_entry, file_map, pool_head, word_of}
+use Rattle.pm_words.specs.Memory.{store_at, IsPages}
+use Rattle.tr_types.specs.Layout.{page_at, root_page, bucket_head, bucket_of, entry_place, first_entry_page, first_free_entry, file_map, word_of}
 use Rattle.tr_types.specs.KernelView.{pages_of, owner_of}
-use Rattle.tr_types.specs.Denotes.{value, control_of, dir_of, IsCofferPage, IsPlace, Chain, IsNamed}
-use Rattle.tr_top.specs.Laid.{Role, Spare, Control, Root, Entries, FilePage, FileAt, IsPlaceOf, HasFile, entries_in, AreDistinct, IsBuilt, AreFree, IsLaid, IsFresh, stored_all}
-use Rattle.tr_top.specs.Plans.{letter_pairs, entry_pairs, free_entry_pairs}
-use Rattle.tr_top.proofs.KeepLaws.{contains_head, contains_tail, contains_cases, value_stored, value_other, Held, Kept, IsAside, InSpare, AtEntryPage, AtFreeEntry, InFree, AllAside, spare_differs, entries_apart, entry_off_page, pages_apart, held_both, pages_held, owner_held, coffer_held, place_of_held, past_held, chain_held, file_held, stored_kept, all_kept, built_kept}
-use Rattle.tr_top.proofs.PlanLemmas.{AreAside, AreOutside, HasEntry, stored_all_aside, stored_all_last, named_after}
+use Rattle.tr_types.specs.Denotes.{value, dir_of, Chain}
+use Rattle.tr_top.specs.Laid.{Role, Spare, FilePage, FileAt, IsPlaceOf, HasFile, IsBuilt, AreFree, IsLaid, IsFresh, stored_all}
+use Rattle.tr_top.specs.Plans.{entry_pairs, free_entry_pairs}
+use Rattle.tr_top.proofs.KeepLaws.{contains_head, contains_tail, contains_cases, value_other, Held, Kept, IsAside, InSpare, AtEntryPage, AtFreeEntry, InFree, spare_differs, entries_apart, entry_off_page, held_both, pages_held, coffer_held, place_of_held, past_held, chain_held, stored_kept, all_kept, built_kept}
+use Rattle.tr_top.proofs.PlanLemmas.{AreAside, HasEntry, stored_all_aside, stored_all_last, named_after}
 use Rattle.tr_top.proofs.PairLaws.{AllAt, value_through, all_at-weaker, aside_all, free_pairs_at, entry_pairs_at}
-use Rattle.tr_top.proofs.CommitLaws.{with_role, IsGrown, with_role_here, with_role_other, with_role_grown, place_grown, built_grown, built_more, head_held, IsOurs, ours_address, ours_root, ours_coffer, ours_place, plan_leaves_rest, laid_after, LeavesRest, IsSafe, safe_store}
+use Rattle.tr_top.proofs.CommitLaws.{with_role, IsGrown, with_role_here, with_role_other, with_role_grown, place_grown, built_grown, built_more, head_held, IsOurs, ours_root, ours_coffer, ours_place, plan_leaves_rest, laid_after, LeavesRest, IsSafe, safe_store}
 
 -- A name that no file has yet.
 pub record IsNewName (files : List FileAt) (name : List ℕ) : Type 0 where

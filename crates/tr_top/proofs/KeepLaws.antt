@@ -1,13 +1,13 @@
 -- What a store leaves as it was where it is aside of the words that the tree is read from.
-use Rattle.std.proofs.Common.{◌≡◌, ◌≢◌, ◌⊎◌, inl, inr, ℕ, zero, suc, ◌+◌, ◌-◌, ◌*◌, ◌/◌, ◌%◌, ◌^◌, ◌<◌, ◌≤◌, Bool, true, false, List, [], ◌∷◌, ◌++◌, length, take, Contains, slice_index, slice_index_or, refl, sym, ap, subst, ◌∙◌, arith, if◌then◌else◌, ◌==◌}
+use Rattle.std.proofs.Common.{◌≡◌, ◌≢◌, ◌⊎◌, inl, inr, ℕ, zero, suc, ◌+◌, ◌/◌, ◌%◌, ◌^◌, ◌<◌, ◌≤◌, Bool, true, false, List, [], ◌∷◌, length, take, Contains, slice_index_or, refl, sym, ap, subst, ◌∙◌, arith, if◌then◌else◌, ◌==◌}
 use Rattle.std.specs.List.{AllByRecursion}
-use Rattle.pm_words.specs.Word.{Word, settled, stored}
-use Rattle.pm_words.specs.Memory.{word_at, store_at, IsAddress, IsPages}
+use Rattle.pm_words.specs.Word.{Word, settled}
+use Rattle.pm_words.specs.Memory.{store_at, IsAddress, IsPages}
 use Rattle.pm_words.proofs.WordLemmas.{length_store_at, word_at_stored, word_at_other, other_place}
-use Rattle.tr_types.specs.Layout.{page_at, kernel_pages, owner_word, root_control, root_page, bucket_head, bucket_of, entry_place, entry_target, name_length, name_word, first_entry_page, first_free_entry, file_map, word_of}
+use Rattle.tr_types.specs.Layout.{page_at, kernel_pages, owner_word, root_control, root_page, bucket_head, bucket_of, entry_place, first_entry_page, first_free_entry, file_map, word_of}
 use Rattle.tr_types.specs.KernelView.{pages_of, owner_of}
 use Rattle.tr_types.specs.Denotes.{value, control_of, dir_of, IsCofferPage, IsPlace, Chain, IsNamed}
-use Rattle.tr_top.specs.Laid.{Role, Spare, Control, Root, Entries, FilePage, FileAt, IsPlaceOf, HasFile, entries_in, AreDistinct, IsBuilt, stored_all}
+use Rattle.tr_top.specs.Laid.{Role, Spare, Entries, FilePage, FileAt, IsPlaceOf, HasFile, entries_in, IsBuilt, stored_all}
 
 -- Members of a list.
 
@@ -239,9 +239,6 @@ entries_apart page place other place' j j' one two low low' ne same = omega arit
 -- nor of another page
 pub entry_off_page : (page place other j word : ℕ) → place < 12 → j < 40 → word < 512 → page ≢ other → word_of (entry_place (page_at page) place) j ≢ word_of (page_at other) word
 entry_off_page page place other j word one low within ne same = omega arith
-
-pub pages_apart : (page other i word : ℕ) → i < 512 → word < 512 → page ≢ other → word_of (page_at page) i ≢ word_of (page_at other) word
-pages_apart page other i word one two ne same = omega arith
 
 -- A word that nothing is read from is apart from the words that something is read from.
 

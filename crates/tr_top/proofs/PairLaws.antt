@@ -1,11 +1,10 @@
 -- Where the stores of a plan go.
-use Rattle.std.proofs.Common.{◌≡◌, ◌≢◌, ◌⊎◌, inl, inr, ℕ, zero, suc, ◌+◌, ◌-◌, ◌*◌, ◌/◌, ◌%◌, ◌<◌, ◌≤◌, List, [], ◌∷◌, ◌++◌, length, map, take, drop, Option, Some, None, slice_get, refl, sym, ap, subst, ◌∙◌, arith, All}
+use Rattle.std.proofs.Common.{◌≡◌, ◌≢◌, ℕ, zero, suc, ◌+◌, ◌*◌, ◌/◌, ◌%◌, ◌<◌, ◌≤◌, List, [], ◌∷◌, ◌++◌, length, map, take, drop, Some, slice_get, ap, subst, ◌∙◌, arith}
 use Rattle.std.specs.List.{AllByRecursion, range_with_len}
-use Rattle.std.proofs.lemmas.List.Elements.{All-from_recursion}
 use Rattle.pm_words.specs.Word.{Word}
 use Rattle.pm_words.specs.Memory.{store_at}
 use Rattle.pm_words.proofs.WordLemmas.{word_at_other}
-use Rattle.tr_types.specs.Layout.{entry_place, entry_target, name_length, name_word, first_entry_page, first_free_entry, word_of}
+use Rattle.tr_types.specs.Layout.{entry_place, name_word, first_entry_page, first_free_entry, word_of}
 use Rattle.tr_types.specs.Denotes.{value}
 use Rattle.tr_top.specs.Laid.{stored_all}
 use Rattle.tr_top.specs.Plans.{letters_word, letter_pairs, entry_pairs, free_entry_pairs, link_pairs, fresh_page_pairs}
@@ -33,26 +32,11 @@ pub aside_all : (P : ℕ → Type 0) (addr : ℕ) (pairs : List (ℕ × ℕ)) �
 aside_all P addr [] f all = tt
 aside_all P addr (p ∷ ps) f all = let one = f p.0 all.0 in (one.0, one.1, aside_all P addr ps f all.1)
 
--- One store after the other, where the commit stands behind the others.
-
--- the address of one that comes before the commit
+-- and so of the next one of a plan, before its commit
 pub pair_at-holds : (P : ℕ → Type 0) (pairs : List (ℕ × ℕ)) (commit p : ℕ × ℕ) (k : ℕ) → AllAt P pairs → k < length pairs → slice_get (pairs ++ commit ∷ []) k ≡ Some p → P p.0
 pair_at-holds P [] commit p k all lt found = absurd (omega arith)
 pair_at-holds P (x ∷ pairs) commit p zero all lt found = let same : x ≡ p = cc in subst (λ (y : ℕ × ℕ). P y.0) same all.0
 pair_at-holds P (x ∷ pairs) commit p (suc k) all lt found = pair_at-holds P pairs commit p k all.1 (omega arith) found
-
--- the memory after it
-pub pair_at-stored : (pairs : List (ℕ × ℕ)) (commit p : ℕ × ℕ) (k : ℕ) (words : List Word) → k < length pairs → slice_get (pairs ++ commit ∷ []) k ≡ Some p → stored_all (take (suc k) pairs) words ≡ store_at p.0 p.1 (stored_all (take k pairs) words)
-pair_at-stored [] commit p k words lt found = absurd (omega arith)
-pair_at-stored (x ∷ pairs) commit p zero words lt found = let same : x ≡ p = cc in ap (λ (y : ℕ × ℕ). store_at y.0 y.1 words) same
-pair_at-stored (x ∷ pairs) commit p (suc k) words lt found = pair_at-stored pairs commit p k (store_at x.0 x.1 words) (omega arith) found
-
--- behind them the commit comes, and then no more
-pub pair_at-last : (pairs : List (ℕ × ℕ)) (commit p : ℕ × ℕ) (k : ℕ) → length pairs ≤ k → slice_get (pairs ++ commit ∷ []) k ≡ Some p → (k ≡ length pairs) × (p ≡ commit)
-pair_at-last [] commit p zero le found = (omega arith, cc)
-pair_at-last [] commit p (suc k) le found = absurd (cc)
-pair_at-last (x ∷ pairs) commit p zero le found = absurd (omega arith)
-pair_at-last (x ∷ pairs) commit p (suc k) le found = let rest = pair_at-last pairs commit p k (omega arith) found in (omega (arith, rest.0), rest.1)
 
 -- The addresses of a plan.
 
@@ -83,12 +67,13 @@ pub behind_file_at : (P : ℕ → Type 0) (dir head : ℕ) (name : List ℕ) (pa
     → AllAt P (pairs_behind_file dir head name page first file)
 behind_file_at P dir head name page first file short each at_page at_free =
     let start : word_of page 0 ≡ page = omega arith in
-    let last : List (ℕ × ℕ) = (first_entry_page dir, page) ∷ (first_free_entry dir, entry_place page 1) ∷ [] in
-    (subst P start (each 0 (omega arith)),
-    all_at-append P (link_pairs page) (entry_pairs (entry_place page 0) head file name ++ last) (link_pairs_at P page (λ i low high. each (32 + 40 * i) (omega arith)))
-    (all_at-append P (entry_pairs (entry_place page 0) head file name) last
-    (entry_pairs_at P (entry_place page 0) head file name short (λ j lt. subst P (place_word j) (each (32 + j) (omega arith))))
-    (at_page, (at_free, tt))))
+    let last : List (ℕ × ℕ) = (first_entry_page dir, page) ∷ (first_free_entry dir, entry_place page 1) ∷ [] in (
+      subst P start (each 0 (omega arith)),
+      all_at-append P (link_pairs page) (entry_pairs (entry_place page 0) head file name ++ last) (link_pairs_at P page (λ i low high. each (32 + 40 * i) (omega arith)))
+          (all_at-append P (entry_pairs (entry_place page 0) head file name) last
+          (entry_pairs_at P (entry_place page 0) head file name short (λ j lt. subst P (place_word j) (each (32 + j) (omega arith))))
+          (at_page, (at_free, tt))),
+    )
   where
     place_word : (j : ℕ) → word_of page (32 + j) ≡ word_of (entry_place page 0) j
     place_word j = omega arith
