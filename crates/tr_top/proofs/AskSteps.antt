@@ -115,7 +115,7 @@ module _ (coffer : Coffer) (command : Command) (head : ℕ) (spot : Spot) (words
 
   -- what the kernel answers, and what is known then
   answered : (answer : KernAnswer) → Answers words (Kernel (Enlarge 1 (spot_pages spot))) (Kern answer) → Goes coffer command (stage.Drawing head spot) Plain (Kernel (Enlarge 1 (spot_pages spot))) words tree (Runs command true None) (Kern answer)
-  answered (kern.Pages pages') (one, (least, (most, (enough, are)))) = record {
+  answered (kern.Pages pages') (one, least, most, (enough, are)) = record {
     legal = (refl, refl);
     denotes = ground_denotes coffer _ tree (ground new enough is);
     knows = (links new enough is, spot_by new enough is spot at, subst (AreDrawn new k.ground.roles spot) (sym are) (drawn_by new enough is spot refl), refl);
@@ -126,7 +126,7 @@ module _ (coffer : Coffer) (command : Command) (head : ℕ) (spot : Spot) (words
 
       is : new ≡ given_to 1 (take (spot_pages spot) (free_pages words)) words
       is = ap (λ l. given_to 1 l words) are
-  answered (kern.NoPages asked free) (one, (least, (most, (few, asks, frees)))) = record {
+  answered (kern.NoPages asked free) (one, least, most, (few, asks, frees)) = record {
     legal = (refl, refl);
     denotes = ground_denotes coffer words tree k.ground;
     knows = (k, asks, refl);

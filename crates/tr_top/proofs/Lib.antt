@@ -70,3 +70,7 @@ mod ReplySteps
 mod CallExits
 -- what a call gives that asks for pages
 mod AskSteps
+-- what comes after a step of a look-up or of a count
+mod LookExits
+-- what comes after a step of a plan
+mod StoreExits
