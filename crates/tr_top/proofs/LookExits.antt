@@ -1,5 +1,6 @@
 -- What comes after a step of a look-up or of a count.
-use Rattle.std.proofs.Common.{◌≡◌, ◌≢◌, ◌⊎◌, ℕ, ◌+◌, ◌^◌, ◌<◌, ◌≤◌, List, [], ◌∷◌, length, map, drop, codes, Contains, Bool, true, false, refl, sym, ap, subst, ◌∙◌, arith, inl, inr, eqb}
+use Rattle.std.proofs.Common.{◌≡◌, ◌≢◌, ◌⊎◌, ℕ, ◌+◌, ◌^◌, ◌<◌, ◌≤◌, List, [], ◌∷◌, length, map, drop, codes, Contains, Bool, true, false, refl, sym, ap, subst, ◌∙◌, arith, inl, inr, eqb, T}
+use Rattle.std.proofs.Math.Dec.{eqb→eq}
 use Rattle.std.specs.List.{list_any, AllByRecursion, IsDistinct}
 use Rattle.std.proofs.lemmas.Bool.{ne_eqb}
 use Rattle.std.proofs.lemmas.Grind.{common_steps}
@@ -34,6 +35,7 @@ use Rattle.tr_top.specs.Knows.{Ground, NextGives, AfterKnowing, StageKnows, Find
 use Rattle.tr_top.proofs.LoadSteps.{ground_denotes, load_gives}
 use Rattle.tr_top.proofs.ReplySteps.{counted_gives}
 use Rattle.tr_top.proofs.Places.{place_near}
+use Rattle.tr_top.proofs.TreeLaws.{contains_here, contains_there, contains_cases, contains_none}
 
 -- what kind of command it is
 pub is_create : (command : Command) (path : List ℕ) (mode : ℕ) → command ≡ Create path mode → IsCreate command
@@ -58,7 +60,7 @@ entry_of f = f.entry
 
 apart_from : (e : ℕ) (files : List FileAt) → ((g : FileAt) → Contains files g → g.entry ≢ e) → AllByRecursion (λ y. eqb e y ≡ false) (map entry_of files)
 apart_from e [] apart = tt
-apart_from e (g ∷ files) apart = (ne_eqb e g.entry (λ same. apart g (inl refl) (sym same)), apart_from e files (λ f c. apart f (inr c)))
+apart_from e (g ∷ files) apart = (ne_eqb e g.entry (λ same. apart g (contains_here g files) (sym same)), apart_from e files (λ f c. apart f (contains_there g files f c)))
 
 distinct_entries : (files : List FileAt) → AreDistinct files → IsDistinct eqb (map entry_of files)
 unfolding IsDistinct
@@ -66,9 +68,12 @@ distinct_entries [] d = tt
 distinct_entries (f ∷ files) d = (apart_from f.entry files (λ g c. (d.0 g c).1), distinct_entries files d.1)
 
 entry_among : (files : List FileAt) (e : ℕ) → Contains (map entry_of files) e → (f : FileAt) × Contains files f × (f.entry ≡ e)
-entry_among [] e c = absurd c
-entry_among (f ∷ files) e (inl same) = (f, inl refl, same)
-entry_among (f ∷ files) e (inr c) = let g = entry_among files e c in (g.0, inr g.1, g.2)
+entry_among [] e c = absurd (contains_none e c)
+entry_among (f ∷ files) e c = by (contains_cases f.entry (map entry_of files) e c) (entry_among files e)
+  where
+    by : (f.entry ≡ e) ⊎ Contains (map entry_of files) e → (Contains (map entry_of files) e → (g : FileAt) × Contains files g × (g.entry ≡ e)) → (g : FileAt) × Contains (f ∷ files) g × (g.entry ≡ e)
+    by (inl same) among = (f, contains_here f files, same)
+    by (inr later) among = let g = among later in (g.0, contains_there f files g.0 g.1, g.2)
 
 length_entries : (files : List FileAt) → length (map entry_of files) ≡ length files
 length_entries [] = refl
@@ -77,7 +82,7 @@ length_entries (f ∷ files) = omega (arith, length_entries files)
 pub few_files : (words : List Word) (roles : ℕ → Role) (files : List FileAt) → IsBuilt words roles files → length files < 2 ^ 63
 few_files words roles files built =
     let near : (q : ℕ) → list_any (eqb q) (map entry_of files) ≡ true → q < 2 ^ 60 =
-    λ q has. let f = entry_among files q (Contains-from_any (λ x y t. grind (arith, common_steps)) q (map entry_of files) has) in subst (λ n. n < 2 ^ 60) f.2 (place_near words roles f.0.entry built.size (built.each f.0 f.1).place) in
+    λ q has. let f = entry_among files q (Contains-from_any (λ x y t. eqb→eq x y (subst T (sym t) tt)) q (map entry_of files) has) in subst (λ n. n < 2 ^ 60) f.2 (place_near words roles f.0.entry built.size (built.each f.0 f.1).place) in
     omega (arith, length_entries files, length-le_from_distinct_below (map entry_of files) (2 ^ 60) (distinct_entries files built.distinct) near)
 
 -- what a step of a look-up promises
@@ -120,7 +125,7 @@ module _ (coffer : Coffer) (command : Command) (count after : Count) (answer : A
   Counted = StageKnows coffer command (stage.Counting count) answer
 
   counts : (words : List Word) (tree : List Member) (phase : Phase) → (s : Counted words tree phase) → CountGives after words s.0.files result
-  counts words tree phase (k, knows, dir, rest) = promise words k.roles k.files k.laid.built (few_files words k.roles k.files k.laid.built) (ap (λ d. d.at) dir ∙ k.dir) knows
+  counts words tree phase (k, knows, dir, root, stat, runs) = promise words k.roles k.files k.laid.built (few_files words k.roles k.files k.laid.built) (ap (λ d. d.at) dir ∙ k.dir) knows
 
   pub count_load_gives : (addr : ℕ) → after.dir ≡ count.dir → result ≡ count_step.Load addr → AfterKnowing coffer command Counted (next.Act (Load addr) (stage.Counting after))
   count_load_gives addr same is valid words tree phase (k, knows, dir, root, stat, (drained, runs)) =

@@ -18,11 +18,10 @@ use Rattle.tr_top.specs.declared.link.Addr.{Addr}
 use Rattle.tr_top.specs.declared.plan.PlanRun.{PlanRun}
 use Rattle.tr_top.specs.declared.plan.Spot.{Spot}
 use Rattle.tr_top.specs.declared.plan.Spot.TheVariants.{Free, Fresh}
-use Rattle.tr_top.specs.Plans.{pair_at}
+use Rattle.tr_top.specs.Plans.{pair_at, free_entry_pairs, fresh_page_pairs, commit_pair}
 use Rattle.tr_top.specs.Grammar.{IsCommand}
 use Rattle.tr_top.specs.Laid.{stored_all}
 use Rattle.tr_top.specs.Knows.{Links, NextGives, AfterKnowing, StageKnows, PlacingKnows, AskKnows, FillKnows, RunKnows, Prepares, Stored, spot_pairs, spot_entry, name_of}
-use Rattle.tr_top.specs.Plans.{commit_pair}
 use Rattle.tr_top.proofs.PlanLemmas.{pair_at_commit, pair_at_over}
 use Rattle.std.proofs.Math.Nat.{eq-or-lt_of_le}
 use Rattle.std.proofs.lemmas.List.{get_or_append_left, length-append}
@@ -114,3 +113,19 @@ begin_knows coffer command head spot pages run dir at none pairs commit words tr
   words_are = ap (λ n. stored_all (take n run.plan.prepares.items) words) (sym none);
   phase_is = runs;
 })
+
+-- the stores and the entry of a spot, by the drawn pages one by one
+pub free_pairs : (pages : List ℕ) (dir head : ℕ) (name : List ℕ) (entry : Addr) (nxt d : ℕ) → 1 ≤ length pages → length pages < 2 → spot_pairs dir head name (Free entry nxt) pages ≡ free_entry_pairs dir head name entry.at nxt (page_at (get_or pages 0 d))
+free_pairs [] dir head name entry nxt d least most = absurd (omega arith)
+free_pairs (file ∷ []) dir head name entry nxt d least most = refl
+free_pairs (file ∷ other ∷ pages) dir head name entry nxt d least most = absurd (omega arith)
+
+pub fresh_pairs : (pages : List ℕ) (dir head : ℕ) (name : List ℕ) (first d : ℕ) → 2 ≤ length pages → length pages < 3 → spot_pairs dir head name (Fresh first) pages ≡ fresh_page_pairs dir head name (page_at (get_or pages 0 d)) first (page_at (get_or pages 1 d))
+fresh_pairs [] dir head name first d least most = absurd (omega arith)
+fresh_pairs (page ∷ []) dir head name first d least most = absurd (omega arith)
+fresh_pairs (page ∷ file ∷ []) dir head name first d least most = refl
+fresh_pairs (page ∷ file ∷ other ∷ pages) dir head name first d least most = absurd (omega arith)
+
+pub fresh_entry : (pages : List ℕ) (first d : ℕ) → 2 ≤ length pages → spot_entry (Fresh first) pages ≡ entry_place (page_at (get_or pages 0 d)) 0
+fresh_entry [] first d least = absurd (omega arith)
+fresh_entry (page ∷ pages) first d least = refl

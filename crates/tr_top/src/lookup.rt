@@ -1,5 +1,5 @@
 // Finding a name in a directory, one load at a time.
-ghost use Rattle.std.specs.Prelude.{◌≡◌, ℕ, ◌+◌, ◌*◌, ◌<◌, ◌≤◌, ◌≢◌, List, length, Contains};
+ghost use Rattle.std.specs.Prelude.{◌≡◌, ℕ, ◌*◌, ◌<◌, ◌≤◌, ◌≢◌, List, length, Contains};
 ghost use Rattle.pm_words.specs.Word.{Word};
 ghost use Rattle.tr_types.specs.Layout.{name_length as name_length_at, name_word as name_word_at};
 ghost use Rattle.tr_types.specs.Denotes.{value, dir_of};
