@@ -45,7 +45,7 @@ ends_saved Done lines coffer words old trace out out' saved saved' f f' s s' non
 ends_saved NoMemory lines coffer words old trace out out' saved saved' f f' s s' none tied ended goes is = record {
   run = tied.run;
   out = (brief_texts trace, [], sym (append-nil (brief_texts trace)), goes.told out (subst (λ t. Appends out out (brief_texts t)) (sym none) (appends_nothing out)));
-  saved = keeps_same saved saved' is;
+  saved = is;
 }
 ends_saved WriteFault lines coffer words old trace out out' saved saved' f f' s s' none tied ended goes is = inr (record {
   run = tied.run;
@@ -66,18 +66,18 @@ ends_stopped stop.Full lines old trace out out' saved f f' s none goes = record 
   full = (goes.full refl).full;
   due = (goes.full refl).due;
   out = goes.told out (subst (λ t. Appends out out (brief_texts t)) (sym none) (appends_nothing out));
-  saved = keeps_same saved saved refl;
+  saved = (refl, refl);
 }
 ends_stopped stop.NoMemory lines old trace out out' saved f f' s none goes = record {
   run = goes.run;
   out = goes.told out (subst (λ t. Appends out out (brief_texts t)) (sym none) (appends_nothing out));
-  saved = keeps_same saved saved refl;
+  saved = (refl, refl);
 }
 ends_stopped stop.OutFailed lines old trace out out' saved f f' s none goes = inl (record {
   run = goes.run;
   cause = goes.cause refl;
   out = goes.told out (subst (λ t. Appends out out (brief_texts t)) (sym none) (appends_nothing out));
-  saved = keeps_same saved saved refl;
+  saved = (refl, refl);
 })
 
 -- one word of the command line

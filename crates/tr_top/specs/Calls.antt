@@ -13,7 +13,7 @@ use Rattle.tr_top.specs.declared.call.Next.{Next}
 use Rattle.tr_top.specs.declared.call.Next.TheVariants as next
 
 abbrev pub IsEnlarge : Kcall → Type 0
-IsEnlarge (Enlarge id count) = id ≡ 1
+IsEnlarge (Enlarge id count) = (id ≡ 1) × (1 ≤ count) × (count ≤ 1024)
 IsEnlarge call = ⊥
 
 -- a call in the root coffer loads, stores at its control page or past it, and asks for pages

@@ -1,5 +1,5 @@
 -- What the parts of the top call answer.
-use Rattle.std.specs.Prelude.{◌≡◌, ℕ, List, Option}
+use Rattle.std.specs.Prelude.{◌≡◌, ◌≤◌, ℕ, List, Option}
 use Rattle.std.specs.Io.KnownBytes.{Appends, Keeps}
 use Rattle.tr_outside.specs.Causes.{Rose}
 use Rattle.tr_outside.specs.Whole.{AppendsFront}
@@ -17,13 +17,13 @@ stop_status stop.OutFailed = WriteFault
 -- why no script was read
 abbrev pub IsRefusal : Option (List ℕ) → Option (List ℕ) → ℕ → ℕ → Status → Type 0
 IsRefusal left rest before after ReadFault = Rose before after
-IsRefusal left rest before after (BadScript line column) = ReadsNoScript left rest
+IsRefusal left rest before after (BadScript line column) = ReadsNoScript left rest × (1 ≤ line) × (1 ≤ column)
 IsRefusal left rest before after NoMemory = Unit {0}
 IsRefusal left rest before after status = ⊥
 
 -- what a sink took of the bytes of an image
 abbrev pub IsSaved : Status → Option (List ℕ) → Option (List ℕ) → ℕ → ℕ → List ℕ → Type 0
 IsSaved Done taken now before after bytes = Appends taken now bytes
-IsSaved NoMemory taken now before after bytes = now ≡ taken
+IsSaved NoMemory taken now before after bytes = (now ≡ taken) × (after ≡ before)
 IsSaved WriteFault taken now before after bytes = AppendsFront taken now bytes × Rose before after
 IsSaved status taken now before after bytes = ⊥

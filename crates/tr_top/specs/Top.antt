@@ -22,6 +22,7 @@ pub record Sinks : Type 0 where
 
 -- What all sources and sinks tell: of the script source, the bytes that it has left, where they are known.
 pub record Outside : Type 0 where
+  pub image_left : Option (List ℕ)
   pub image_faults : ℕ
   pub script_left : Option (List ℕ)
   pub script_faults : ℕ
@@ -40,7 +41,7 @@ PrintsFront before after trace = AppendsFront before.out_written after.out_writt
 
 -- `saved` takes nothing; or the image of the last words, or a front of it
 abbrev pub SavesNothing : Sinks → Sinks → Type 0
-SavesNothing before after = Keeps before.saved_written after.saved_written
+SavesNothing before after = (after.saved_written ≡ before.saved_written) × (after.saved_faults ≡ before.saved_faults)
 
 abbrev pub Saves : Sinks → Sinks → List Line → List Entry → Type 0
 Saves before after lines trace = Appends before.saved_written after.saved_written (image_bytes (last_words lines trace))
@@ -110,8 +111,7 @@ pub record ReadsNoScript (left rest : Option (List ℕ)) : Type 0 where
 -- no run began: the trace is empty, and nothing was written
 pub record BeginsNothing (before after : Sinks) (trace : List Entry) : Type 0 where
   pub empty : trace ≡ []
-  pub out : Keeps before.out_written after.out_written
-  pub saved : Keeps before.saved_written after.saved_written
+  pub sinks : after ≡ before
 
 -- a script was read, and its run ended so
 abbrev pub Runs : Outside → Outside → Status → List Entry → Type 0
@@ -120,10 +120,10 @@ Runs before after status trace =
 
 -- What the call has done that ended with a status and a trace.
 abbrev pub Ends : Outside → Outside → Status → List Entry → Type 0
-Ends before after Usage trace = BeginsNothing before.sinks after.sinks trace × Keeps before.script_left after.script_left
-Ends before after (BadScript line column) trace = BeginsNothing before.sinks after.sinks trace × ReadsNoScript before.script_left after.script_left
+Ends before after Usage trace = BeginsNothing before.sinks after.sinks trace × (after.script_left ≡ before.script_left) × (after.script_faults ≡ before.script_faults)
+Ends before after (BadScript line column) trace = BeginsNothing before.sinks after.sinks trace × ReadsNoScript before.script_left after.script_left × (1 ≤ line) × (1 ≤ column)
 Ends before after ReadFault trace =
-    BeginsNothing before.sinks after.sinks trace × (Rose before.image_faults after.image_faults ⊎ Rose before.script_faults after.script_faults)
+    BeginsNothing before.sinks after.sinks trace × Rose before.script_faults after.script_faults
 Ends before after NoMemory trace = BeginsNothing before.sinks after.sinks trace ⊎ Runs before after NoMemory trace
 Ends before after Done trace = Runs before after Done trace
 Ends before after Full trace = Runs before after Full trace
@@ -131,7 +131,6 @@ Ends before after WriteFault trace = Runs before after WriteFault trace
 
 -- counts of faults never fall
 pub record CountsStay (before after : Outside) : Type 0 where
-  pub image : before.image_faults ≤ after.image_faults
   pub script : before.script_faults ≤ after.script_faults
   pub out : before.sinks.out_faults ≤ after.sinks.out_faults
   pub saved : before.sinks.saved_faults ≤ after.sinks.saved_faults
@@ -139,6 +138,8 @@ pub record CountsStay (before after : Outside) : Type 0 where
 -- The top clause: of the command line's words, what the outside told before and after, the status and the trace.
 -- The words are looked at first, then the script, then it is run.
 pub record IsAnswered (words : List (List ℕ)) (before after : Outside) (status : Status) (trace : List Entry) : Type 0 where
+  pub image_left : after.image_left ≡ before.image_left
+  pub image_faults : after.image_faults ≡ before.image_faults
   pub usage : (status ≡ Usage) ↔ (IsForm words → ⊥)
   pub counts : CountsStay before after
   pub ends : Ends before after status trace

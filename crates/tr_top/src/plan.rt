@@ -1,5 +1,5 @@
 // The stores of a change: those that prepare it, and the one by which it comes about.
-ghost use Rattle.std.specs.Prelude.{◌≡◌, ◌<◌, ◌^◌};
+ghost use Rattle.std.specs.Prelude.{◌≡◌, ◌<◌, ◌≤◌, ◌^◌};
 
 use crate::letters::{letters_at, word_of_letters};
 use crate::link::Addr;
@@ -20,7 +20,10 @@ pub(crate) enum Spot {
 
 impl Spot {
     /// How many pages a new file takes with its entry here.
-    pub fn pages(self) -> u32 {
+    pub fn pages(self) -> u32
+        ensures some { 1 ≤ result }
+        ensures few { result ≤ 2 }
+    {
         match self {
             Spot::Free { .. } => 1,
             Spot::Fresh { .. } => 2,

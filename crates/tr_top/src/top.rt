@@ -36,8 +36,10 @@ pub fn zofs_run<I: Source, S: Source, O: Sink, D: Sink>(
     out: &mut O,
     saved: &mut D,
 ) -> Outcome
-    ensures { IsAnswered (map string_bytes words.now)
+    ensures unread { image.new ≡ image.old }
+    ensures answered { IsAnswered (map string_bytes words.now)
         (record {
+          image_left = I.left image.old;
           image_faults = I.faults image.old;
           script_left = S.left script.old;
           script_faults = S.faults script.old;
@@ -49,6 +51,7 @@ pub fn zofs_run<I: Source, S: Source, O: Sink, D: Sink>(
           };
         })
         (record {
+          image_left = I.left image.new;
           image_faults = I.faults image.new;
           script_left = S.left script.new;
           script_faults = S.faults script.new;

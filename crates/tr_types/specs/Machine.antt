@@ -55,7 +55,7 @@ IsEnlarged words count answer = ⊥
 
 -- the kernel answers a call so: the root coffer may be enlarged, and no other call is built
 abbrev pub IsCalled : List Word → Kcall → Answer → Type 0
-IsCalled words (Enlarge id count) (Kern answer) = (id ≡ 1) × IsEnlarged words count answer
+IsCalled words (Enlarge id count) (Kern answer) = (id ≡ 1) × (1 ≤ count) × (count ≤ 1024) × IsEnlarged words count answer
 IsCalled words call answer = ⊥
 
 -- the machine with this memory may answer an action so

@@ -4,7 +4,7 @@ use Rattle.std.specs.Prelude.{ℕ, List, [], ◌∷◌, Bool, false, Option, Som
 use Rattle.tr_types.specs.Machine.{Machine, opened, moved, Fits}
 use Rattle.tr_types.specs.Tree.{Member, new_tree, reply_to, tree_after}
 use Rattle.tr_types.specs.declared.action.Answer.{Answer}
-use Rattle.tr_types.specs.declared.action.Answer.TheVariants.{Kern}
+use Rattle.tr_types.specs.declared.action.Answer.TheVariants.{Done, Kern}
 use Rattle.tr_types.specs.declared.command.Command.{Command}
 use Rattle.tr_types.specs.declared.command.Reply.{Reply}
 use Rattle.tr_types.specs.declared.entry.Entry.{Entry}
@@ -55,19 +55,19 @@ grown tree (Runs command refused) = tree_after tree command
 grown tree phase = tree
 
 abbrev pub phase_after : List Member → Mark → Answer → Phase → Phase
-phase_after tree Commit answer phase = committed tree phase
+phase_after tree Commit Done phase = committed tree phase
 phase_after tree mark answer phase = told phase answer
 
-abbrev pub changed : Mark → List Member → Phase → List Member
-changed Commit tree phase = grown tree phase
-changed mark tree phase = tree
+abbrev pub changed : Mark → Answer → List Member → Phase → List Member
+changed Commit Done tree phase = grown tree phase
+changed mark answer tree phase = tree
 
 -- the world after an entry
 abbrev pub stepped : World → Entry → World
 stepped w (entry.Call thread command) = record { machine = moved w.machine (entry.Call thread command); tree = w.tree; phases = put w.phases thread (Runs command None); lost = w.lost }
 stepped w (entry.Act thread now mark action answer) = record {
   machine = moved w.machine (entry.Act thread now mark action answer);
-  tree = changed mark w.tree (w.phases thread);
+  tree = changed mark answer w.tree (w.phases thread);
   phases = put w.phases thread (phase_after w.tree mark answer (w.phases thread));
   lost = w.lost;
 }
