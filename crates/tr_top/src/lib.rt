@@ -14,6 +14,8 @@ mod reader;
 mod runner;
 mod script;
 mod status;
+#[cfg(test)]
+mod tests;
 mod text;
 mod top;
 

@@ -67,3 +67,22 @@ pub enum Reply {
     Again { times: u8 },
     Damaged { addr: u64 },
 }
+
+#[cfg(test)]
+mod tests {
+    use super::*;
+
+    #[test]
+    fn a_copy_has_the_path_and_the_mode(rt: HostRuntime) -> Result<(), AllocError> {
+        let path = Path::new(Vec::from_slice(rt.alloc(), b"/f")?);
+        let command = Command::Create { path, mode: 0o666 };
+        match command.copy(rt.alloc())? {
+            Command::Create { path, mode } => {
+                assert_eq!(rt; path.as_bytes(), b"/f".as_slice());
+                assert_eq!(rt; mode, 438);
+            }
+            Command::Stat { .. } => assert!(rt; false, "another command"),
+        }
+        Ok(())
+    }
+}

@@ -198,3 +198,27 @@ impl Trace {
         Ok(())
     }
 }
+
+#[cfg(test)]
+mod tests {
+    use super::*;
+
+    #[test]
+    fn a_trace_keeps_its_entries_in_order(rt: HostRuntime) -> Result<(), AllocError> {
+        let mut trace = Trace::new(rt.alloc());
+        assert!(rt; trace.last_answer().is_none());
+        trace.push(Entry::Act {
+            thread: 0,
+            now: 0,
+            mark: Mark::Plain,
+            action: Action::Load(8),
+            answer: Answer::Word(1),
+        })?;
+        assert!(rt; matches!(trace.last_answer(), Some(Answer::Word(1))));
+        trace.push(Entry::Mkfs(64))?;
+        assert!(rt; trace.last_answer().is_none());
+        assert_eq!(rt; trace.len(), 2);
+        assert!(rt; matches!(trace.entries(), [Entry::Act { .. }, Entry::Mkfs(64)]));
+        Ok(())
+    }
+}

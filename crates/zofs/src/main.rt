@@ -25,7 +25,8 @@ fn main(rt: HostRuntime) -> io::Result<ExitCode> {
         Err(_) => Status::Usage,
     };
     if status != Status::Done {
-        eprintln!(rt; "{status}")?;
+        // Where the text can't be written, the exit code still tells the status.
+        let _ = eprintln!(rt; "{status}");
     }
     Ok(ExitCode::from(status.exit_code()))
 }
