@@ -74,3 +74,5 @@ mod AskSteps
 mod LookExits
 -- what comes after a step of a plan
 mod StoreExits
+-- when a call must come to its end
+mod Completes

@@ -28,3 +28,5 @@ pub mod Running
 pub mod Top
 -- what the parts of the top call answer
 pub mod Ending
+-- when a call must come to its end
+pub mod Completes

@@ -1,0 +1,20 @@
+-- When a call must come to its end.
+use Rattle.std.specs.Prelude.{◌≡◌, ℕ, ◌-◌, ◌<◌, ◌≤◌, ◌^◌, List, length}
+use Rattle.tr_types.specs.declared.entry.Entry.{Entry}
+use Rattle.tr_top.specs.declared.status.Status.{Status}
+use Rattle.tr_top.specs.declared.status.Status.TheVariants.{Done, Full, NoMemory}
+use Rattle.tr_top.specs.Run.{trace_limit}
+use Rattle.tr_top.specs.Top.{Outside}
+
+-- no fault was counted: each count is what it was, and wasn't at the counter's last value
+pub record NoFault (before after : Outside) : Type 0 where
+  pub script : (after.script_faults ≡ before.script_faults) × (before.script_faults < 2 ^ 64 - 1)
+  pub out : (after.sinks.out_faults ≡ before.sinks.out_faults) × (before.sinks.out_faults < 2 ^ 64 - 1)
+  pub saved : (after.sinks.saved_faults ≡ before.sinks.saved_faults) × (before.sinks.saved_faults < 2 ^ 64 - 1)
+
+-- the script was run to its end, or memory ran out, or the trace is full and more is due
+abbrev pub EndsWell : Status → List Entry → Type 0
+EndsWell Done trace = Unit {0}
+EndsWell NoMemory trace = Unit {0}
+EndsWell Full trace = trace_limit ≤ length trace
+EndsWell status trace = ⊥
