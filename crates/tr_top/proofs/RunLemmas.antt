@@ -30,7 +30,7 @@ use Rattle.tr_top.specs.declared.script.Line.TheVariants.{Mkfs}
 use Rattle.tr_top.specs.Grammar.{declared, nothing_declared, MayStand}
 use Rattle.tr_top.specs.Along.{Place, Running, MayFollow, IsNext, IsAtEnd, followed, start_of}
 use Rattle.tr_top.specs.Text.{brief_text, brief_texts}
-use Rattle.tr_top.specs.Run.{IsRun, trace_limit, pages_made, world_after, place_after, opening}
+use Rattle.tr_top.specs.Run.{IsRun, IsRight, trace_limit, pages_made, world_after, place_after, opening}
 use Rattle.tr_top.specs.Running.{Added, Told, Goes, IsTied, IsFullAt, IsStill, IsActionAt, IsCallOf, IsNextLine}
 
 pub world_more : (lines : List Line) (t : List Entry) (e : Entry) → world_after lines (t ++ e ∷ []) ≡ stepped (world_after lines t) e
@@ -43,10 +43,11 @@ pub length_more : (t : List Entry) (e : Entry) → length (t ++ e ∷ []) ≡ le
 length_more [] e = refl
 length_more (x ∷ t) e = omega (arith, length_more t e)
 
-pub run_more : (lines : List Line) (t : List Entry) (e : Entry) → IsRun lines t → MayFollow (place_after lines t) e → MayCome (world_after lines t) e → length t < 4194304 → IsRun lines (t ++ e ∷ [])
-run_more lines t e run follows comes room = record {
+pub run_more : (lines : List Line) (t : List Entry) (e : Entry) → IsRun lines t → MayFollow (place_after lines t) e → MayCome (world_after lines t) e → IsRight (world_after lines t) e → length t < 4194304 → IsRun lines (t ++ e ∷ [])
+run_more lines t e run follows comes right room = record {
   follows = Each_more _ _ _ t e run.follows follows;
   allowed = Each_more _ _ _ t e run.allowed comes;
+  right = Each_more _ _ _ t e run.right right;
   within = omega (arith, length_more t e);
 }
 
@@ -158,7 +159,7 @@ length_new_image pages = length-map-range_with_len (new_word pages) 0 (512 * pag
 -- A run begins tied.
 pub tied_first : (lines : List Line) (coffer : Coffer) (words : List Word) (trace : List Entry) (pages : ℕ) → pages ≡ pages_made lines → 64 ≤ pages → pages ≤ 16384 → words ≡ all_durable (new_image pages) → trace ≡ [] → coffer.control.at ≡ page_at (root_control pages) → coffer.dir.at ≡ page_at (root_page pages) → IsTied lines coffer words trace
 tied_first lines coffer words trace pages made least most is none control dir = record {
-  run = subst (IsRun lines) (sym none) (record { follows = tt; allowed = tt; within = omega arith });
+  run = subst (IsRun lines) (sym none) (record { follows = tt; allowed = tt; right = tt; within = omega arith });
   memory = is ∙ ap (λ n. all_durable (new_image n)) made ∙ ap (λ t. (world_after lines t).machine.words) (sym none);
   least = subst (λ n. 64 ≤ n) made least;
   most = subst (λ n. n ≤ 16384) made most;
