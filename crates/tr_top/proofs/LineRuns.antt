@@ -88,3 +88,13 @@ line_done lines coffer i old trace new words next taken now then before after la
     full = λ x. absurd (cc);
   };
 }
+
+-- the same, where the line was followed by what is now the run
+pub line_followed : (lines told : List Line) (coffer other : Coffer) (i : ℕ) (old trace new : List Entry) (words next : List Word) (taken now then : Option (List ℕ)) (before after later : ℕ) (line : Line) → told ≡ lines → other ≡ coffer → LineRuns lines coffer i old trace words taken now before after → i < length lines → line ≡ get_or lines i line → IsTied told other next new → IsQuiet told other new → Passes told trace new coffer line → Goes {T = Unit {0}} told trace new now then after later (Ok tt) → LineRuns lines other (i + 1) old new next taken then before later
+line_followed lines told coffer other i old trace new words next taken now then before after later line script same runs lt at tied quiet passes goes =
+    subst (λ (c : Coffer). LineRuns lines c (i + 1) old new next taken then before later) (sym same)
+    (line_done lines coffer i old trace new words next taken now then before after later line runs lt at
+    (subst (λ (l : List Line). IsTied l coffer next new) script (subst (λ (c : Coffer). IsTied told c next new) same tied))
+    (subst (λ (l : List Line). IsQuiet l coffer new) script (subst (λ (c : Coffer). IsQuiet told c new) same quiet))
+    (subst (λ (l : List Line). Passes l trace new coffer line) script passes)
+    (subst (λ (l : List Line). Goes {T = Unit {0}} l trace new now then after later (Ok tt)) script goes))

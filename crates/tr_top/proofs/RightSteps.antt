@@ -1,7 +1,7 @@
 -- What each entry of a run keeps: it is legal, the words denote the tree after it, and what comes next knows its ground.
-use Rattle.std.proofs.Common.{◌≡◌, ◌≢◌, ℕ, ◌-◌, ◌+◌, ◌<◌, ◌≤◌, List, [], ◌∷◌, ◌++◌, length, cond, Bool, true, false, Option, Some, None, refl, sym, ap, subst, ◌∙◌, arith, eq-eqb, ne_eqb, ◌==◌, OnOk, Ok, Err}
+use Rattle.std.proofs.Common.{◌≡◌, ◌≢◌, ℕ, ◌-◌, ◌+◌, ◌<◌, ◌≤◌, List, [], ◌∷◌, ◌++◌, length, cond, Bool, true, false, Option, Some, None, refl, sym, ap, subst, ◌∙◌, arith, eq-eqb, ne_eqb, ◌==◌, OnOk, Ok, Err, Bor}
 use Rattle.std.specs.List.{slice_get}
-use Rattle.std.specs.Option.{unwrap_or}
+use Rattle.std.specs.Option.{unwrap_or, option_copied}
 use Rattle.std.specs.declared.result.Result.{Result}
 use Rattle.std.proofs.Math.Seq.{get_or-append_seam}
 use Rattle.std.proofs.lemmas.Option.{slice_get-get_or}
@@ -12,7 +12,7 @@ use Rattle.tr_types.specs.KernelView.{pages_of}
 use Rattle.tr_types.specs.Layout.{page_at, root_control, root_page}
 use Rattle.tr_types.specs.Machine.{Machine, Answers}
 use Rattle.tr_types.specs.NewImage.{new_image}
-use Rattle.tr_types.specs.Traces.{answer_in}
+use Rattle.tr_types.specs.Traces.{answer_in, last_answer}
 use Rattle.tr_types.specs.Tree.{new_tree}
 use Rattle.tr_types.specs.World.{World, Phase, Idle, Runs, MayBegin, put, stepped}
 use Rattle.tr_types.specs.declared.action.Action.{Action}
@@ -62,6 +62,11 @@ get_last trace e =
 
 answer_more : (trace : List Entry) (thread now : ℕ) (mark : Mark) (action : Action) (answer : Answer) → answer_after (trace ++ entry.Act thread now mark action answer ∷ []) ≡ answer
 answer_more trace thread now mark action answer = ap (λ (o : Option Entry). unwrap_or (answer_in o) Done) (get_last trace (entry.Act thread now mark action answer))
+
+-- what a call hears that asks for the last answer
+pub heard_is : (trace : List Entry) (last : Option (Bor Answer)) (other told : Bor Answer) → option_copied last ≡ last_answer trace → told ≡ unwrap_or last other → other.now ≡ Done → told.now ≡ answer_after trace
+heard_is trace None other told is chosen done = ap (λ b. b.now) chosen ∙ done ∙ ap (λ o. unwrap_or o Done) is
+heard_is trace (Some b) other told is chosen done = ap (λ b. b.now) chosen ∙ ap (λ o. unwrap_or o Done) is
 
 -- A run begins quiet.
 pub quiet_first : (lines : List Line) (coffer : Coffer) (trace : List Entry) (pages : ℕ) → pages ≡ pages_made lines → 64 ≤ pages → pages ≤ 16384 → trace ≡ [] → coffer.control.at ≡ page_at (root_control pages) → coffer.dir.at ≡ page_at (root_page pages) → IsQuiet lines coffer trace

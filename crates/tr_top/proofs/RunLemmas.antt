@@ -82,6 +82,16 @@ goes_ok v lines old new e taken now before after run is told later = record {
   full = λ x. absurd (cc);
 }
 
+-- memory ran out before an entry was added
+pub goes_nowhere : {T : Type 0} (r : Result T Stop) (stop : Stop) (lines : List Line) (trace : List Entry) (taken : Option (List ℕ)) (faults : ℕ) → IsRun lines trace → r ≡ Err stop → stop ≡ NoMemory → Goes lines trace trace taken taken faults faults r
+goes_nowhere r stop lines trace taken faults run is why = subst (λ x. Goes lines trace trace taken taken faults faults x) (sym (is ∙ ap Err why)) (record {
+  run = run;
+  told = λ start a. whole_front start taken (brief_texts trace) a;
+  later = omega arith;
+  cause = λ x. absurd (cc);
+  full = λ x. absurd (cc);
+})
+
 pub goes_err : {T : Type 0} (stop : Stop) (lines : List Line) (old new : List Entry) (e : Entry) (taken now : Option (List ℕ)) (before after : ℕ) → IsRun lines old → IsRun lines (old ++ e ∷ []) → Added {T = Unit {0}} (Err stop) e old new taken now before after → before ≤ after → Goes {T = T} lines old new taken now before after (Err stop)
 goes_err Full lines old new e taken now before after was run added later = absurd added
 goes_err NoMemory lines old new e taken now before after was run added later = record {
