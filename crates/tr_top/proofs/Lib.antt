@@ -14,6 +14,8 @@ mod TextLemmas
 mod FreePages
 -- a run with one more entry
 mod RunLemmas
+-- what each entry of a run keeps
+mod RightSteps
 -- what holds while a call runs
 mod CallRuns
 -- what holds between two lines

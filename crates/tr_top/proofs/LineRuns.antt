@@ -11,7 +11,7 @@ use Rattle.tr_top.specs.declared.script.Line.TheVariants.{Mkfs, Process, Thread,
 use Rattle.tr_top.specs.Grammar.{Declared, declared, nothing_declared, MayStand}
 use Rattle.tr_top.specs.Along.{Place, rest, IsAtEnd}
 use Rattle.tr_top.specs.Run.{world_after, place_after, pages_made}
-use Rattle.tr_top.specs.Running.{IsTied, Goes, IsLike, IsNextLine, Passes}
+use Rattle.tr_top.specs.Running.{IsTied, IsQuiet, Goes, IsLike, IsNextLine, Passes}
 
 -- what the first lines of a script have declared
 abbrev pub declared_by : List Line → ℕ → Declared
@@ -20,6 +20,7 @@ declared_by lines i = state_after declared nothing_declared (take i lines)
 -- the first i lines are done
 pub record LineRuns (lines : List Line) (coffer : Coffer) (i : ℕ) (old trace : List Entry) (words : List Word) (taken now : Option (List ℕ)) (before after : ℕ) : Type 0 where
   pub tied : IsTied lines coffer words trace
+  pub quiet : IsQuiet lines coffer trace
   pub left : (place_after lines trace).left ≡ drop i lines
   pub running : (place_after lines trace).running ≡ None
   pub dir : 0 < i → (place_after lines trace).dir ≡ coffer.dir.at
@@ -71,9 +72,10 @@ next_line lines coffer i old trace words taken now before after line orderly run
 }
 
 -- the line is done
-pub line_done : (lines : List Line) (coffer : Coffer) (i : ℕ) (old trace new : List Entry) (words next : List Word) (taken now then : Option (List ℕ)) (before after later : ℕ) (line : Line) → LineRuns lines coffer i old trace words taken now before after → i < length lines → line ≡ get_or lines i line → IsTied lines coffer next new → Passes lines trace new coffer line → Goes {T = Unit {0}} lines trace new now then after later (Ok tt) → LineRuns lines coffer (i + 1) old new next taken then before later
-line_done lines coffer i old trace new words next taken now then before after later line runs lt at tied passes goes = record {
+pub line_done : (lines : List Line) (coffer : Coffer) (i : ℕ) (old trace new : List Entry) (words next : List Word) (taken now then : Option (List ℕ)) (before after later : ℕ) (line : Line) → LineRuns lines coffer i old trace words taken now before after → i < length lines → line ≡ get_or lines i line → IsTied lines coffer next new → IsQuiet lines coffer new → Passes lines trace new coffer line → Goes {T = Unit {0}} lines trace new now then after later (Ok tt) → LineRuns lines coffer (i + 1) old new next taken then before later
+line_done lines coffer i old trace new words next taken now then before after later line runs lt at tied quiet passes goes = record {
   tied = tied;
+  quiet = quiet;
   left = passes.left ∙ ap rest (runs.left ∙ drop_more lines i line lt);
   running = passes.running;
   dir = λ _. passes.dir;
@@ -86,3 +88,13 @@ line_done lines coffer i old trace new words next taken now then before after la
     full = λ x. absurd (cc);
   };
 }
+
+-- the same, where the line was followed by what is now the run
+pub line_followed : (lines told : List Line) (coffer other : Coffer) (i : ℕ) (old trace new : List Entry) (words next : List Word) (taken now then : Option (List ℕ)) (before after later : ℕ) (line : Line) → told ≡ lines → other ≡ coffer → LineRuns lines coffer i old trace words taken now before after → i < length lines → line ≡ get_or lines i line → IsTied told other next new → IsQuiet told other new → Passes told trace new coffer line → Goes {T = Unit {0}} told trace new now then after later (Ok tt) → LineRuns lines other (i + 1) old new next taken then before later
+line_followed lines told coffer other i old trace new words next taken now then before after later line script same runs lt at tied quiet passes goes =
+    subst (λ (c : Coffer). LineRuns lines c (i + 1) old new next taken then before later) (sym same)
+    (line_done lines coffer i old trace new words next taken now then before after later line runs lt at
+    (subst (λ (l : List Line). IsTied l coffer next new) script (subst (λ (c : Coffer). IsTied told c next new) same tied))
+    (subst (λ (l : List Line). IsQuiet l coffer new) script (subst (λ (c : Coffer). IsQuiet told c new) same quiet))
+    (subst (λ (l : List Line). Passes l trace new coffer line) script passes)
+    (subst (λ (l : List Line). Goes {T = Unit {0}} l trace new now then after later (Ok tt)) script goes))

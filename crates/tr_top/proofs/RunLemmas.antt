@@ -30,7 +30,7 @@ use Rattle.tr_top.specs.declared.script.Line.TheVariants.{Mkfs}
 use Rattle.tr_top.specs.Grammar.{declared, nothing_declared, MayStand}
 use Rattle.tr_top.specs.Along.{Place, Running, MayFollow, IsNext, IsAtEnd, followed, start_of}
 use Rattle.tr_top.specs.Text.{brief_text, brief_texts}
-use Rattle.tr_top.specs.Run.{IsRun, trace_limit, pages_made, world_after, place_after, opening}
+use Rattle.tr_top.specs.Run.{IsRun, IsRight, trace_limit, pages_made, world_after, place_after, opening}
 use Rattle.tr_top.specs.Running.{Added, Told, Goes, IsTied, IsFullAt, IsStill, IsActionAt, IsCallOf, IsNextLine}
 
 pub world_more : (lines : List Line) (t : List Entry) (e : Entry) → world_after lines (t ++ e ∷ []) ≡ stepped (world_after lines t) e
@@ -43,10 +43,11 @@ pub length_more : (t : List Entry) (e : Entry) → length (t ++ e ∷ []) ≡ le
 length_more [] e = refl
 length_more (x ∷ t) e = omega (arith, length_more t e)
 
-pub run_more : (lines : List Line) (t : List Entry) (e : Entry) → IsRun lines t → MayFollow (place_after lines t) e → MayCome (world_after lines t) e → length t < 4194304 → IsRun lines (t ++ e ∷ [])
-run_more lines t e run follows comes room = record {
+pub run_more : (lines : List Line) (t : List Entry) (e : Entry) → IsRun lines t → MayFollow (place_after lines t) e → MayCome (world_after lines t) e → IsRight (world_after lines t) e → length t < 4194304 → IsRun lines (t ++ e ∷ [])
+run_more lines t e run follows comes right room = record {
   follows = Each_more _ _ _ t e run.follows follows;
   allowed = Each_more _ _ _ t e run.allowed comes;
+  right = Each_more _ _ _ t e run.right right;
   within = omega (arith, length_more t e);
 }
 
@@ -80,6 +81,16 @@ goes_ok v lines old new e taken now before after run is told later = record {
   cause = λ x. absurd (cc);
   full = λ x. absurd (cc);
 }
+
+-- memory ran out before an entry was added
+pub goes_nowhere : {T : Type 0} (r : Result T Stop) (stop : Stop) (lines : List Line) (trace : List Entry) (taken : Option (List ℕ)) (faults : ℕ) → IsRun lines trace → r ≡ Err stop → stop ≡ NoMemory → Goes lines trace trace taken taken faults faults r
+goes_nowhere r stop lines trace taken faults run is why = subst (λ x. Goes lines trace trace taken taken faults faults x) (sym (is ∙ ap Err why)) (record {
+  run = run;
+  told = λ start a. whole_front start taken (brief_texts trace) a;
+  later = omega arith;
+  cause = λ x. absurd (cc);
+  full = λ x. absurd (cc);
+})
 
 pub goes_err : {T : Type 0} (stop : Stop) (lines : List Line) (old new : List Entry) (e : Entry) (taken now : Option (List ℕ)) (before after : ℕ) → IsRun lines old → IsRun lines (old ++ e ∷ []) → Added {T = Unit {0}} (Err stop) e old new taken now before after → before ≤ after → Goes {T = T} lines old new taken now before after (Err stop)
 goes_err Full lines old new e taken now before after was run added later = absurd added
@@ -158,7 +169,7 @@ length_new_image pages = length-map-range_with_len (new_word pages) 0 (512 * pag
 -- A run begins tied.
 pub tied_first : (lines : List Line) (coffer : Coffer) (words : List Word) (trace : List Entry) (pages : ℕ) → pages ≡ pages_made lines → 64 ≤ pages → pages ≤ 16384 → words ≡ all_durable (new_image pages) → trace ≡ [] → coffer.control.at ≡ page_at (root_control pages) → coffer.dir.at ≡ page_at (root_page pages) → IsTied lines coffer words trace
 tied_first lines coffer words trace pages made least most is none control dir = record {
-  run = subst (IsRun lines) (sym none) (record { follows = tt; allowed = tt; within = omega arith });
+  run = subst (IsRun lines) (sym none) (record { follows = tt; allowed = tt; right = tt; within = omega arith });
   memory = is ∙ ap (λ n. all_durable (new_image n)) made ∙ ap (λ t. (world_after lines t).machine.words) (sym none);
   least = subst (λ n. 64 ≤ n) made least;
   most = subst (λ n. n ≤ 16384) made most;

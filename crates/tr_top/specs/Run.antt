@@ -1,10 +1,11 @@
 -- What a run of a script is: a trace that follows the script's lines and that the machine allows, from the new image
--- that the script's first line makes.
+-- that the script's first line makes, and whose entries are legal and keep the words and the tree together.
 use Rattle.std.specs.Prelude.{ℕ, ◌≤◌, List, [], ◌∷◌, length}
 use Rattle.pm_words.specs.Memory.{present_values}
 use Rattle.tr_types.specs.Fold.{Each, state_after}
 use Rattle.tr_types.specs.NewImage.{new_image}
-use Rattle.tr_types.specs.World.{World, world_of, stepped, MayCome}
+use Rattle.tr_types.specs.Denotes.{Denotes}
+use Rattle.tr_types.specs.World.{World, world_of, stepped, MayCome, IsLegal}
 use Rattle.tr_types.specs.declared.entry.Entry.{Entry}
 use Rattle.tr_top.specs.declared.script.Line.{Line}
 use Rattle.tr_top.specs.declared.script.Line.TheVariants.{Mkfs}
@@ -36,8 +37,14 @@ place_after lines trace = state_after followed (start_of lines) trace
 abbrev pub last_words : List Line → List Entry → List ℕ
 last_words lines trace = present_values (world_after lines trace).machine.words
 
+-- the entry is legal, and after it the words denote the tree
+pub record IsRight (w : World) (e : Entry) : Type 0 where
+  pub legal : IsLegal w e
+  pub denotes : Denotes (stepped w e).machine.words (stepped w e).tree
+
 -- the trace is a front of a run of the script
 pub record IsRun (lines : List Line) (trace : List Entry) : Type 0 where
   pub follows : Follows lines trace
   pub allowed : Each stepped MayCome (world_of (opening lines)) trace
+  pub right : Each stepped IsRight (world_of (opening lines)) trace
   pub within : length trace ≤ trace_limit

@@ -1,5 +1,5 @@
 -- What the parts of a run keep.
-use Rattle.std.specs.Prelude.{◌≡◌, ℕ, ◌≤◌, List, [], ◌∷◌, ◌++◌, length, Option, Some, None, Bool, true, false, Ok, Err}
+use Rattle.std.specs.Prelude.{◌≡◌, ◌≢◌, ℕ, ◌≤◌, List, [], ◌∷◌, ◌++◌, length, Option, Some, None, unwrap_or, Bool, true, false, Ok, Err}
 use Rattle.std.specs.declared.result.Result.{Result}
 use Rattle.std.specs.Io.KnownBytes.{Appends}
 use Rattle.pm_words.specs.Word.{Word}
@@ -7,12 +7,16 @@ use Rattle.pm_words.specs.Memory.{all_durable}
 use Rattle.tr_types.specs.Layout.{page_at, root_control, root_page}
 use Rattle.tr_types.specs.KernelView.{pages_of}
 use Rattle.tr_types.specs.Machine.{Machine}
+use Rattle.tr_types.specs.Traces.{last_answer}
+use Rattle.tr_types.specs.World.{Idle}
 use Rattle.tr_types.specs.declared.entry.Entry.{Entry}
 use Rattle.tr_outside.specs.Causes.{Rose}
 use Rattle.tr_outside.specs.Whole.{AppendsFront}
 use Rattle.tr_types.specs.declared.entry.Entry.TheVariants as entry
 use Rattle.tr_types.specs.declared.entry.Mark.{Mark}
 use Rattle.tr_types.specs.declared.action.Action.{Action}
+use Rattle.tr_types.specs.declared.action.Answer.{Answer}
+use Rattle.tr_types.specs.declared.action.Answer.TheVariants.{Done}
 use Rattle.tr_types.specs.declared.command.Command.{Command}
 use Rattle.tr_types.specs.Fold.{state_after}
 use Rattle.tr_types.specs.Marks.{mark_of}
@@ -22,8 +26,9 @@ use Rattle.tr_top.specs.declared.runner.Stop.{Stop}
 use Rattle.tr_top.specs.declared.runner.Stop.TheVariants.{Full, NoMemory, OutFailed}
 use Rattle.tr_top.specs.declared.script.Line.{Line}
 use Rattle.tr_top.specs.declared.script.Line.TheVariants.{Mkfs}
-use Rattle.tr_top.specs.Grammar.{Declared, declared, nothing_declared, MayStand}
+use Rattle.tr_top.specs.Grammar.{Declared, declared, nothing_declared, MayStand, IsCommand}
 use Rattle.tr_top.specs.Along.{Place, IsAtEnd, rest}
+use Rattle.tr_top.specs.Knows.{Ground, StageKnows}
 use Rattle.tr_top.specs.Text.{brief_text, brief_texts}
 use Rattle.tr_top.specs.Run.{IsRun, trace_limit, pages_made, opening, world_after, place_after}
 
@@ -64,6 +69,26 @@ pub record IsTied (lines : List Line) (coffer : Coffer) (words : List Word) (tra
   pub size : pages_of words ≡ pages_made lines
   pub control : coffer.control.at ≡ page_at (root_control (pages_made lines))
   pub dir : coffer.dir.at ≡ page_at (root_page (pages_made lines))
+
+-- between two calls: the ground of the next one, and no thread's call runs
+pub record IsQuiet (lines : List Line) (coffer : Coffer) (trace : List Entry) : Type 0 where
+  pub ground : Ground coffer (world_after lines trace).machine.words (world_after lines trace).tree
+  pub idle : (t : ℕ) → (world_after lines trace).phases t ≡ Idle
+
+-- what the last action of a trace was answered; a call that begins is told that all is done
+abbrev pub answer_after : List Entry → Answer
+answer_after trace = unwrap_or (last_answer trace) Done
+
+-- between two actions of a thread's call: it knows what its stage asks for with the last answer, and no other call runs
+pub record IsAtStage (lines : List Line) (trace : List Entry) (thread : ℕ) (call : CallRun) : Type 0 where
+  pub valid : IsCommand call.command.now
+  pub knows : StageKnows call.coffer call.command.now call.stage (answer_after trace) (world_after lines trace).machine.words (world_after lines trace).tree ((world_after lines trace).phases thread)
+  pub others : (t : ℕ) → t ≢ thread → (world_after lines trace).phases t ≡ Idle
+
+-- after a turn the call is between two actions, or has left the ground for the next one
+abbrev pub IsTurned : Bool → List Line → Coffer → List Entry → ℕ → CallRun → Type 0
+IsTurned true lines coffer trace thread call = IsAtStage lines trace thread call
+IsTurned false lines coffer trace thread call = IsQuiet lines coffer trace
 
 -- who lives on the machine is as before, and an entry has come
 pub record WhoStays (old new : Machine) : Type 0 where

@@ -4,14 +4,14 @@ ghost use Rattle.pm_words.specs.Memory.{present_values};
 ghost use Rattle.tr_types.specs.declared.action.Answer.{Answer};
 ghost use Rattle.tr_types.specs.Fold.{Each};
 ghost use Rattle.tr_types.specs.Layout.{page_at, root_control, root_page};
-ghost use Rattle.tr_types.specs.Machine.{IsThread};
+ghost use Rattle.tr_types.specs.Machine.{IsThread, Answers};
 ghost use Rattle.tr_types.specs.World.{MayCome};
 ghost use Rattle.tr_top.specs.declared.runner.Stop.TheVariants.{NoMemory, OutFailed};
-ghost use Rattle.tr_top.specs.Grammar.{MayStand, declared, nothing_declared};
+ghost use Rattle.tr_top.specs.Grammar.{MayStand, declared, nothing_declared, IsCommand};
 ghost use Rattle.tr_top.specs.Along.{MayFollow, IsAtEnd};
 ghost use Rattle.tr_top.specs.Calls.{IsCallAction};
-ghost use Rattle.tr_top.specs.Run.{pages_made, world_after, place_after};
-ghost use Rattle.tr_top.specs.Running.{Added, Goes, IsTied, WhoStays, IsStill, IsNextLine, Passes, IsAnsweredAt, IsCallOf, TurnsTo, IsActionAt};
+ghost use Rattle.tr_top.specs.Run.{IsRight, pages_made, world_after, place_after};
+ghost use Rattle.tr_top.specs.Running.{Added, Goes, IsTied, IsQuiet, IsAtStage, IsTurned, WhoStays, IsStill, IsNextLine, Passes, IsAnsweredAt, IsCallOf, TurnsTo, IsActionAt};
 
 use crate::call::{CallRun, CallStep, Coffer};
 use crate::link::Addr;
@@ -119,6 +119,7 @@ impl<'a> Runner<'a> {
         ensures script { IfOk result (λ r. r.script.now ≡ script.now) }
         ensures trace { IfOk result (λ r. r.log.trace ≡ []) }
         ensures tied { IfOk result (λ r. IsTied script.now r.coffer r.machine r.log.trace) }
+        ensures quiet { IfOk result (λ r. IsQuiet script.now r.coffer r.log.trace) }
     {
         Ok(Runner {
             alloc,
@@ -132,6 +133,7 @@ impl<'a> Runner<'a> {
     /// Runs all lines.
     pub fn run<O: Sink>(&mut self, out: &mut O) -> Result<(), Stop>
         requires tied { IsTied self.old.script.now self.old.coffer self.old.machine self.old.log.trace }
+        requires quiet { IsQuiet self.old.script.now self.old.coffer self.old.log.trace }
         requires fresh { self.old.log.trace ≡ [] }
         requires orderly { Each declared MayStand nothing_declared self.old.script.now }
         ensures script { self.new.script.now ≡ self.old.script.now }
@@ -151,12 +153,14 @@ impl<'a> Runner<'a> {
     // Gives the entries of a line.
     fn follow<O: Sink>(&mut self, out: &mut O, line: &Line) -> Result<(), Stop>
         requires tied { IsTied self.old.script.now self.old.coffer self.old.machine self.old.log.trace }
+        requires quiet { IsQuiet self.old.script.now self.old.coffer self.old.log.trace }
         requires next { IsNextLine self.old.script.now self.old.log.trace self.old.coffer line.now }
         ensures same { (self.new.script.now ≡ self.old.script.now) × (self.new.coffer ≡ self.old.coffer) }
         ensures goes { Goes self.old.script.now self.old.log.trace self.new.log.trace
             (O.written out.old) (O.written out.new) (O.faults out.old) (O.faults out.new) result }
         ensures tied { OnOk result
             (IsTied self.old.script.now self.new.coffer self.new.machine self.new.log.trace) }
+        ensures quiet { OnOk result (IsQuiet self.old.script.now self.new.coffer self.new.log.trace) }
         ensures passed { OnOk result
             (Passes self.old.script.now self.old.log.trace self.new.log.trace self.old.coffer line.now) }
     {
@@ -185,6 +189,7 @@ impl<'a> Runner<'a> {
         requires tied { IsTied self.old.script.now self.old.coffer self.old.machine self.old.log.trace }
         requires next { MayFollow (place_after self.old.script.now self.old.log.trace) entry }
         requires allowed { MayCome (world_after self.old.script.now self.old.log.trace) entry }
+        requires right { IsRight (world_after self.old.script.now self.old.log.trace) entry }
         requires still { IsStill entry }
         ensures same { (self.new.script.now ≡ self.old.script.now) × (self.new.coffer ≡ self.old.coffer) }
         ensures goes { Goes self.old.script.now self.old.log.trace self.new.log.trace
@@ -200,15 +205,18 @@ impl<'a> Runner<'a> {
     // Gives a call, and makes its turns until it has ended.
     fn call<O: Sink>(&mut self, out: &mut O, thread: u16, command: &Command) -> Result<(), Stop>
         requires tied { IsTied self.old.script.now self.old.coffer self.old.machine self.old.log.trace }
+        requires quiet { IsQuiet self.old.script.now self.old.coffer self.old.log.trace }
         requires next { MayFollow (place_after self.old.script.now self.old.log.trace)
             (Entry.Call thread command.now) }
         requires dir { (place_after self.old.script.now self.old.log.trace).dir ≡ self.old.coffer.dir.at }
         requires thread { IsThread (world_after self.old.script.now self.old.log.trace).machine thread }
+        requires valid { IsCommand command.now }
         ensures same { (self.new.script.now ≡ self.old.script.now) × (self.new.coffer ≡ self.old.coffer) }
         ensures goes { Goes self.old.script.now self.old.log.trace self.new.log.trace
             (O.written out.old) (O.written out.new) (O.faults out.old) (O.faults out.new) result }
         ensures tied { OnOk result
             (IsTied self.old.script.now self.new.coffer self.new.machine self.new.log.trace) }
+        ensures quiet { OnOk result (IsQuiet self.old.script.now self.new.coffer self.new.log.trace) }
         ensures place { OnOk result (IsAnsweredAt
             (place_after self.old.script.now self.old.log.trace)
             (place_after self.old.script.now self.new.log.trace)) }
@@ -242,6 +250,7 @@ impl<'a> Runner<'a> {
         requires tied { IsTied self.old.script.now self.old.coffer self.old.machine self.old.log.trace }
         requires runs { IsCallOf (place_after self.old.script.now self.old.log.trace)
             self.old.coffer thread call.old }
+        requires knows { IsAtStage self.old.script.now self.old.log.trace thread call.old }
         requires thread { IsThread (world_after self.old.script.now self.old.log.trace).machine thread }
         ensures same { (self.new.script.now ≡ self.old.script.now) × (self.new.coffer ≡ self.old.coffer) }
         ensures call { (call.new.coffer ≡ call.old.coffer) × (call.new.command.now ≡ call.old.command.now) }
@@ -249,6 +258,8 @@ impl<'a> Runner<'a> {
             (O.written out.old) (O.written out.new) (O.faults out.old) (O.faults out.new) result }
         ensures tied { OnOk result
             (IsTied self.old.script.now self.new.coffer self.new.machine self.new.log.trace) }
+        ensures turned { IfOk result (λ goes_on.
+            IsTurned goes_on self.old.script.now self.new.coffer self.new.log.trace thread call.new) }
         ensures length { OnOk result
             (length self.new.log.trace ≡ length self.old.log.trace + 1) }
         ensures who { OnOk result (WhoStays
@@ -285,12 +296,14 @@ impl<'a> Runner<'a> {
         requires thread { IsThread (world_after self.old.script.now self.old.log.trace).machine thread }
         requires action { IsCallAction self.old.coffer.control.at action }
         requires mark { IsActionAt (place_after self.old.script.now self.old.log.trace) thread mark action }
+        requires right { (answer : Answer) → Answers self.old.machine action answer →
+            IsRight (world_after self.old.script.now self.old.log.trace) (Entry.Act thread 0 mark action answer) }
         ensures same { (self.new.script.now ≡ self.old.script.now) × (self.new.coffer ≡ self.old.coffer) }
         ensures goes { Goes self.old.script.now self.old.log.trace self.new.log.trace
             (O.written out.old) (O.written out.new) (O.faults out.old) (O.faults out.new) result }
         ensures tied { OnOk result
             (IsTied self.old.script.now self.new.coffer self.new.machine self.new.log.trace) }
-        ensures added { OnOk result ((answer : Answer)
+        ensures added { OnOk result ((answer : Answer) × Answers self.old.machine action answer
             × (self.new.log.trace ≡ self.old.log.trace ++ Entry.Act thread 0 mark action answer ∷ [])) }
     {
         let answer = self.machine.act(self.alloc, &action)?;

@@ -1,5 +1,17 @@
+use Rattle.std.proofs.Common.{refl}
+use Rattle.tr_top.proofs.LoadSteps.{ground_denotes}
+use Rattle.tr_top.proofs.RightSteps.{quiet_still}
 use Rattle.tr_top.proofs.RunLemmas.{mkfs_comes}
 use Rattle.tr_top.proofs.runner.Runner.follow.Goals as goal
 
 pub start-requires-clause-allowed : goal.start-requires-clause-allowed
 start-requires-clause-allowed g c = mkfs_comes _ _ _ _ c.in-Mkfs.pages c.requires.next c.in-Mkfs.is
+
+pub start-requires-clause-right : goal.start-requires-clause-right
+start-requires-clause-right g c = record { legal = tt; denotes = ground_denotes _ _ _ c.requires.quiet.ground }
+
+pub start-requires-in-Process-clause-right : goal.start-requires-in-Process-clause-right
+start-requires-in-Process-clause-right g c = record { legal = tt; denotes = ground_denotes _ _ _ c.requires.quiet.ground }
+
+pub start-requires-in-Thread-clause-right : goal.start-requires-in-Thread-clause-right
+start-requires-in-Thread-clause-right g c = record { legal = tt; denotes = ground_denotes _ _ _ c.requires.quiet.ground }
