@@ -138,7 +138,7 @@ not_map_gives coffer command target answer n other valid words tree phase ((f, i
 -- The kernel is asked for pages.
 pub ask_pages_gives : (coffer : Coffer) (command : Command) (head : ℕ) (spot : Spot) (count : ℕ) → count ≡ spot_pages spot → AfterKnowing coffer command (PoolKnows coffer command head spot) (next.Act (Kernel (Enlarge 1 count)) (stage.Drawing head spot))
 ask_pages_gives coffer command head spot count is valid words tree phase (k, at, runs) =
-    subst (λ n. NextGives coffer command (next.Act (Kernel (Enlarge 1 n)) (stage.Drawing head spot)) words tree phase) (sym is) (ask_gives coffer command head spot words tree k at phase runs)
+    subst (λ n. NextGives coffer command (next.Act (Kernel (Enlarge 1 n)) (stage.Drawing head spot)) words tree phase) (sym is) (ask_gives coffer command head spot words tree k at valid phase runs)
 
 pub nopages_gives : (coffer : Coffer) (command : Command) (head : ℕ) (spot : Spot) (asked free : ℕ) → AfterKnowing coffer command (StageKnows coffer command (stage.Drawing head spot) (Kern (kern.NoPages asked free))) (next.Over (NoSpace asked free))
 nopages_gives coffer command head spot asked free valid words tree phase (k, asks, is) = nospace_gives coffer command head spot asked free words tree phase valid k asks is

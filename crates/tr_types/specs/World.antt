@@ -106,16 +106,17 @@ abbrev pub MayCommit : List Member → Phase → Answer → Type 0
 MayCommit tree (Runs command drained None) Done = IsChange tree command
 MayCommit tree phase answer = ⊥
 
--- any other action is of a call that runs, and that asks for pages only after its pool showed none
-abbrev pub MayAct : Phase → Action → Type 0
-MayAct Idle action = ⊥
-MayAct (Runs command drained refused) (Kernel call) = (drained ≡ true) × (refused ≡ None)
-MayAct (Runs command drained refused) action = Unit {0}
-MayAct (Committed reply) action = Unit {0}
+-- Any other action is of a call that runs. It asks for pages only after its pool showed none, and for a change that
+-- would succeed.
+abbrev pub MayAct : List Member → Phase → Action → Type 0
+MayAct tree Idle action = ⊥
+MayAct tree (Runs command drained refused) (Kernel call) = (drained ≡ true) × (refused ≡ None) × IsChange tree command
+MayAct tree (Runs command drained refused) action = Unit {0}
+MayAct tree (Committed reply) action = Unit {0}
 
 abbrev pub IsLegalAct : List Member → Phase → Mark → Action → Answer → Type 0
 IsLegalAct tree phase Commit action answer = MayCommit tree phase answer
-IsLegalAct tree phase mark action answer = MayAct phase action
+IsLegalAct tree phase mark action answer = MayAct tree phase action
 
 -- What a call without a commit may reply: where it was refused pages, that there is no space for them, which it asked
 -- for in a change that would succeed; else what the tree answers, where that changes nothing.
