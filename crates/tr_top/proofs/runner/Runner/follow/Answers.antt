@@ -15,3 +15,12 @@ start-requires-in-Process-clause-right g c = record { legal = tt; denotes = grou
 
 pub start-requires-in-Thread-clause-right : goal.start-requires-in-Thread-clause-right
 start-requires-in-Thread-clause-right g c = record { legal = tt; denotes = ground_denotes _ _ _ c.requires.quiet.ground }
+
+pub returns-in-Mkfs-clause-quiet : goal.returns-in-Mkfs-clause-quiet
+returns-in-Mkfs-clause-quiet g c = quiet_still _ _ _ _ _ _ _ c.requires.quiet c.start.ensures.same.1 c.start.ensures.added refl refl (λ t. refl)
+
+pub returns-in-Process-clause-quiet : goal.returns-in-Process-clause-quiet
+returns-in-Process-clause-quiet g c = quiet_still _ _ _ _ _ _ _ c.requires.quiet c.start-in-Process.ensures.same.1 c.start-in-Process.ensures.added refl refl (λ t. refl)
+
+pub returns-in-Thread-clause-quiet : goal.returns-in-Thread-clause-quiet
+returns-in-Thread-clause-quiet g c = quiet_still _ _ _ _ _ _ _ c.requires.quiet c.start-in-Thread.ensures.same.1 c.start-in-Thread.ensures.added refl refl (λ t. refl)

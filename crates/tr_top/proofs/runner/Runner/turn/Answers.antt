@@ -54,3 +54,10 @@ returns-in_ok-act-in-Act-clause-turned g c =
     let steps : StepsFrom c.args.call.now c.unwrap_or-answer.result.now c.next.new.self (step.Act c.in-Act.mark c.in-Act.action) = subst (StepsFrom c.args.call.now c.unwrap_or-answer.result.now c.next.new.self) c.in-Act.is c.in_ok-mark.ensures.gives in
     let added = c.in_ok-act-in-Act.ensures.added in
     act_turns _ _ c.args.thread c.args.call.now c.next.new.self c.in-Act.mark c.in-Act.action _ c.args.self.now.machine k.knows heard steps k.tied.memory c.act.new.self.log.trace added.0 added.1 added.2 c.next.ensures.command
+
+pub returns-in_ok-add-in-Over-clause-turned : goal.returns-in_ok-add-in-Over-clause-turned
+returns-in_ok-add-in-Over-clause-turned g c =
+    let k = c.requires in
+    let heard : c.unwrap_or-answer.result.now ≡ answer_after c.args.self.now.log.trace = heard_is c.args.self.now.log.trace _ _ _ c.last_answer.ensures c.unwrap_or-answer.ensures refl in
+    let steps : StepsFrom c.args.call.now c.unwrap_or-answer.result.now c.next.new.self (step.Over c.in-Over.reply) = subst (StepsFrom c.args.call.now c.unwrap_or-answer.result.now c.next.new.self) c.in-Over.is c.in_ok-mark.ensures.gives in
+    reply_turns _ c.args.self.now.coffer _ c.args.thread c.args.call.now c.next.new.self c.in-Over.reply _ k.knows heard steps (c.next.ensures.coffer ∙ k.runs.same_coffer) c.add.new.self.trace c.in_ok-add-in-Over.ensures.added.0
