@@ -1,4 +1,2 @@
--- the names of a path, part by part
-pub mod NameLemmas
--- a walk along the members
-pub mod MemberLemmas
+-- a walk along a path that splits it into names
+pub mod Walked

@@ -8,7 +8,7 @@ use crate::names::{is_directly_under, names_of, same_names};
 use sqlite_items::Items;
 use std::alloc::{AllocError, Global};
 use std::marker::Model;
-use tr_types::{Bytes, Command, Kind, Name, Names, Path, Reply};
+use tr_types::{Bytes, Command, Kind, Name, Names, Reply};
 
 /// The permission of all that stands in the tree: to read and write, for everyone.
 const MODE: u16 = 0o666;
@@ -52,7 +52,7 @@ impl Model for Tree {
 }
 
 impl Tree {
-    /// A new file system: the root directory alone.
+    /// A new file system: the root directory alone. Fails only where memory is refused.
     pub fn new(alloc: Global) -> Result<Tree, AllocError>
         ensures { IfOk result (λ tree. tree ≡ spec.new_tree) }
     {
@@ -64,7 +64,8 @@ impl Tree {
         Ok(Tree { members })
     }
 
-    /// What the command is answered. It changes nothing: `apply` does.
+    /// What the command is answered: a size in bytes, of a directory its number of names. It changes
+    /// nothing: `apply` does. Fails only where memory is refused.
     pub fn answer(&self, alloc: Global, command: &Command) -> Result<Reply, AllocError>
         ensures { IfOk result (λ reply. reply ≡ spec.reply_to self.now command.now) }
     {
@@ -80,7 +81,8 @@ impl Tree {
         }
     }
 
-    /// Does what the command asks for. On an error the tree stays as it was.
+    /// Does what the command asks for. Fails only where memory is refused, and the tree then stays as
+    /// it was.
     pub fn apply(&mut self, alloc: Global, command: &Command) -> Result<(), AllocError>
         ensures ok { OnOk result (self.new ≡ spec.tree_after self.old command.now) }
         ensures err { OnErr result (self.new ≡ self.old) }
@@ -156,4 +158,73 @@ fn create(members: &mut Vec<Member>, alloc: Global, names: Names) -> Result<(), 
         node: Node::File(Bytes::new(alloc)),
     })?;
     Ok(())
+}
+
+#[cfg(test)]
+mod tests {
+    use super::*;
+    use tr_types::Path;
+
+    fn create(alloc: Global, path: &[u8]) -> Result<Command, AllocError> {
+        Ok(Command::Create {
+            path: Path::new(Vec::from_slice(alloc, path)?),
+            mode: 0o600,
+        })
+    }
+
+    fn stat(tree: &Tree, alloc: Global, path: &[u8]) -> Result<Reply, AllocError> {
+        let path = Path::new(Vec::from_slice(alloc, path)?);
+        tree.answer(alloc, &Command::Stat { path })
+    }
+
+    /// A tree with one file, `/f`.
+    fn tree_of_one(alloc: Global) -> Result<Tree, AllocError> {
+        let mut tree = Tree::new(alloc)?;
+        tree.apply(alloc, &create(alloc, b"/f")?)?;
+        Ok(tree)
+    }
+
+    #[test]
+    fn a_new_tree_is_an_empty_directory(rt: HostRuntime) -> Result<(), AllocError> {
+        let alloc = rt.alloc();
+        let tree = Tree::new(alloc)?;
+        let reply = stat(&tree, alloc, b"/")?;
+        assert!(rt; matches!(&reply, Reply::Info(Kind::Dir, 0, 0, 0, 438)));
+        Ok(())
+    }
+
+    #[test]
+    fn a_file_is_made_once(rt: HostRuntime) -> Result<(), AllocError> {
+        let alloc = rt.alloc();
+        let mut tree = Tree::new(alloc)?;
+        let command = create(alloc, b"/f")?;
+        let first = tree.answer(alloc, &command)?;
+        assert!(rt; matches!(&first, Reply::Made));
+        tree.apply(alloc, &command)?;
+        let second = tree.answer(alloc, &command)?;
+        assert!(rt; matches!(&second, Reply::Exists));
+        Ok(())
+    }
+
+    #[test]
+    fn a_new_file_is_empty_and_counts_once(rt: HostRuntime) -> Result<(), AllocError> {
+        let alloc = rt.alloc();
+        let tree = tree_of_one(alloc)?;
+        let file = stat(&tree, alloc, b"/f")?;
+        assert!(rt; matches!(&file, Reply::Info(Kind::File, 0, 0, 0, 438)));
+        let root = stat(&tree, alloc, b"/")?;
+        assert!(rt; matches!(&root, Reply::Info(Kind::Dir, 1, 0, 0, 438)));
+        Ok(())
+    }
+
+    #[test]
+    fn other_names_are_not_found(rt: HostRuntime) -> Result<(), AllocError> {
+        let alloc = rt.alloc();
+        let tree = tree_of_one(alloc)?;
+        let longer = stat(&tree, alloc, b"/fg")?;
+        assert!(rt; matches!(&longer, Reply::NotFound));
+        let below = stat(&tree, alloc, b"/f/g")?;
+        assert!(rt; matches!(&below, Reply::NotFound));
+        Ok(())
+    }
 }

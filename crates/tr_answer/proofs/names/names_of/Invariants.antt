@@ -1,6 +1,6 @@
 use Rattle.std.proofs.Common.{◌≡◌, drop}
 use Rattle.tr_types.specs.Tree as spec
-use Rattle.tr_answer.proofs.NameLemmas.{walked}
+use Rattle.tr_answer.proofs.Walked.{walked}
 use Rattle.tr_answer.proofs.names.names_of.Given as goal
 
 abbrev pub invariant-loop-byte : goal.invariant-loop-byte
