@@ -1,5 +1,5 @@
 // The names of paths, and how the names of two paths compare.
-ghost use Rattle.std.specs.Prelude.{◌≡◌, ℕ, ◌+◌, List, [], ◌∷◌, ◌++◌, length, Bool, ◌&&◌, ◌==◌, nat_eq, if◌then◌else◌, IfOk, OnOk};
+ghost use Rattle.std.specs.Prelude.{◌≡◌, ◌+◌, [], ◌∷◌, ◌++◌, length, ◌&&◌, ◌==◌, nat_eq, IfOk, OnOk};
 ghost use Rattle.std.specs.List.{starts_with};
 ghost use Rattle.std.specs.Cmp.Lexicographic.{pointwise};
 ghost use Rattle.tr_types.specs.Tree as spec;
@@ -56,4 +56,25 @@ pub fn is_directly_under(above: &[Name], names: &[Name]) -> bool
     ensures { result ≡ ((length names.now == length above.now + 1) && starts_with (pointwise nat_eq) names.now above.now) }
 {
     names.len() == above.len() + 1 && same_names(above, &names[..above.len()])
+}
+
+#[cfg(test)]
+mod tests {
+    use super::*;
+
+    #[test]
+    fn names_lie_between_slashes(rt: HostRuntime) -> Result<(), AllocError> {
+        let names = names_of(rt.alloc(), b"//ab/c/")?;
+        let names = names.as_slice();
+        assert_eq!(rt; names.len(), 2);
+        assert_eq!(rt;
+            names.first().map(|name| name.as_bytes()),
+            Some(b"ab".as_slice())
+        );
+        assert_eq!(rt;
+            names.last().map(|name| name.as_bytes()),
+            Some(b"c".as_slice())
+        );
+        Ok(())
+    }
 }

@@ -1,11 +1,10 @@
 // The tree as a list of all that stands in it, and what commands are answered.
-ghost use Rattle.std.specs.Prelude.{◌≡◌, ℕ, ◌+◌, List, [], ◌∷◌, ◌++◌, length, filter, IfOk, OnOk, OnErr};
+ghost use Rattle.std.specs.Prelude.{◌≡◌, length, filter, IfOk, OnOk, OnErr};
 ghost use Rattle.std.specs.Option.{option_copied, option_map};
 ghost use Rattle.tr_types.specs.Tree as spec;
 ghost use Rattle.tr_answer.specs.Nodes.{node_of, create_reply as create_reply_to, with_file};
 
 use crate::names::{is_directly_under, names_of, same_names};
-use sqlite_items::Items;
 use std::alloc::{AllocError, Global};
 use std::marker::Model;
 use tr_types::{Bytes, Command, Kind, Name, Names, Reply};
