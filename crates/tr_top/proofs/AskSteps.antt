@@ -1,12 +1,12 @@
 -- What a call gives with the call for pages: the kernel's answer, whichever it is, leaves the tree.
-use Rattle.std.proofs.Common.{◌≡◌, ◌≢◌, ℕ, ◌+◌, ◌<◌, ◌≤◌, List, [], ◌∷◌, length, take, Contains, Option, Some, None, Bool, true, false, refl, sym, ap, subst, ◌∙◌, arith}
+use Rattle.std.proofs.Common.{◌≡◌, ℕ, ◌<◌, ◌≤◌, List, [], ◌∷◌, length, take, Contains, None, true, refl, sym, ap, subst, ◌∙◌, arith}
 use Rattle.pm_words.specs.Word.{Word}
-use Rattle.tr_types.specs.Layout.{bucket_head, bucket_of, first_free_entry, page_at, root_control, root_page}
+use Rattle.tr_types.specs.Layout.{bucket_of, page_at, root_control, root_page}
 use Rattle.tr_types.specs.KernelView.{pages_of, free_pages, given_to}
 use Rattle.tr_types.specs.Machine.{Answers}
 use Rattle.tr_types.specs.Tree.{Member}
-use Rattle.tr_types.specs.Denotes.{value, Denotes, Chain, dir_of, control_of}
-use Rattle.tr_types.specs.World.{Phase, Runs, Shortage}
+use Rattle.tr_types.specs.Denotes.{value, Chain}
+use Rattle.tr_types.specs.World.{Phase, Runs}
 use Rattle.tr_types.specs.declared.action.Action.TheVariants.{Kernel}
 use Rattle.tr_types.specs.declared.action.Answer.{Answer}
 use Rattle.tr_types.specs.declared.action.Answer.TheVariants.{Word as WordIs, Done, Fault, Kern}
@@ -21,8 +21,8 @@ use Rattle.tr_top.specs.declared.call.Stage.TheVariants as stage
 use Rattle.tr_top.specs.declared.plan.Spot.{Spot}
 use Rattle.tr_top.specs.declared.plan.Spot.TheVariants.{Free, Fresh}
 use Rattle.tr_top.specs.Grammar.{IsCommand}
-use Rattle.tr_top.specs.Laid.{Role, FileAt, IsLaid, IsFresh, entries_in}
-use Rattle.tr_top.specs.Knows.{Ground, Links, Goes, NextGives, IsSpot, AreDrawn, DrawnKnows, name_of, spot_pages}
+use Rattle.tr_top.specs.Laid.{IsLaid, IsFresh, entries_in}
+use Rattle.tr_top.specs.Knows.{Ground, Links, Goes, NextGives, IsSpot, AreDrawn, name_of, spot_pages}
 use Rattle.tr_top.proofs.ReplySteps.{change_is_due}
 use Rattle.tr_top.proofs.EnlargeLaws.{laid_enlarge}
 use Rattle.tr_top.proofs.GivenLaws.{distinct_two}

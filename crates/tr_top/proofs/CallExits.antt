@@ -1,43 +1,33 @@
 -- What comes after an answer, exit by exit.
-use Rattle.std.proofs.Common.{◌≡◌, ◌≢◌, ◌⊎◌, ℕ, ◌+◌, ◌*◌, ◌^◌, ◌<◌, ◌≤◌, List, [], ◌∷◌, length, drop, codes, Contains, Option, Some, None, Bool, true, false, refl, sym, ap, subst, ◌∙◌, arith, inl, inr}
+use Rattle.std.proofs.Common.{◌≡◌, ◌≢◌, ℕ, ◌^◌, ◌<◌, ◌≤◌, List, [], ◌∷◌, length, refl, sym, ap, subst, ◌∙◌, arith}
 use Rattle.pm_words.specs.Word.{Word}
 use Rattle.pm_words.specs.Memory.{IsAddress}
-use Rattle.tr_types.specs.Layout.{page_at, word_of, bucket_head, bucket_of, first_entry_page, first_free_entry, file_map, pool_head, root_control}
-use Rattle.tr_types.specs.KernelView.{pages_of}
+use Rattle.tr_types.specs.Layout.{page_at, first_entry_page, first_free_entry, file_map, pool_head}
 use Rattle.tr_types.specs.Tree.{Member}
-use Rattle.tr_types.specs.Denotes.{value, Chain, dir_of, control_of}
-use Rattle.tr_types.specs.World.{Phase, Runs, pool_of}
+use Rattle.tr_types.specs.Denotes.{value, Chain}
+use Rattle.tr_types.specs.World.{pool_of}
 use Rattle.tr_types.specs.declared.action.Action.TheVariants.{Load, Kernel}
 use Rattle.tr_types.specs.declared.action.Answer.{Answer}
-use Rattle.tr_types.specs.declared.action.Answer.TheVariants.{Word as WordIs, Done, Fault, Kern}
+use Rattle.tr_types.specs.declared.action.Answer.TheVariants.{Word as WordIs, Kern}
 use Rattle.tr_types.specs.declared.command.Command.{Command}
-use Rattle.tr_types.specs.declared.command.Command.TheVariants.{Create, Stat}
-use Rattle.tr_types.specs.declared.command.Kind.TheVariants.{File, Dir}
-use Rattle.tr_types.specs.declared.command.Reply.TheVariants.{Made, Info, Exists, NotFound, NoSpace}
+use Rattle.tr_types.specs.declared.command.Kind.TheVariants.{File}
+use Rattle.tr_types.specs.declared.command.Reply.TheVariants.{Info, Exists, NotFound, NoSpace}
 use Rattle.tr_types.specs.declared.kernel_call.Kcall.TheVariants.{Enlarge}
-use Rattle.tr_types.specs.declared.kernel_call.KernAnswer.{KernAnswer}
 use Rattle.tr_types.specs.declared.kernel_call.KernAnswer.TheVariants as kern
 use Rattle.tr_top.specs.declared.call.Coffer.{Coffer}
 use Rattle.tr_top.specs.declared.call.Next.{Next}
 use Rattle.tr_top.specs.declared.call.Next.TheVariants as next
 use Rattle.tr_top.specs.declared.call.Placing.TheVariants.{FreeEntry, NextFree, FirstPage, Pool}
-use Rattle.tr_top.specs.declared.call.Stage.{Stage}
 use Rattle.tr_top.specs.declared.call.Stage.TheVariants as stage
 use Rattle.tr_top.specs.declared.call.Telling.TheVariants as telling
-use Rattle.tr_top.specs.declared.count.Count.{Count}
 use Rattle.tr_top.specs.declared.link.Addr.{Addr}
-use Rattle.tr_top.specs.declared.lookup.Lookup.{Lookup}
-use Rattle.tr_top.specs.declared.plan.PlanRun.{PlanRun}
 use Rattle.tr_top.specs.declared.plan.Spot.{Spot}
-use Rattle.tr_top.specs.declared.plan.Spot.TheVariants.{Free, Fresh}
-use Rattle.tr_top.specs.Grammar.{IsCommand}
-use Rattle.tr_top.specs.Laid.{Role, FileAt, IsBuilt, IsLaid, AreFree, IsPlaceOf, HasFile}
-use Rattle.tr_top.specs.Looking.{LookKnows, LookGives, CountKnows, CountGives}
-use Rattle.tr_top.specs.Knows.{Ground, Links, Finds, NextGives, AfterKnowing, StageKnows, IsRunning, IsMissing, IsSpot, IsCreate, IsStat, BeginKnows, FindKnows, MissKnows, PlaceKnows, AskKnows, PoolKnows, name_of, path_of, spot_pages}
+use Rattle.tr_top.specs.Laid.{Role, FileAt, IsLaid, AreFree, IsPlaceOf}
+use Rattle.tr_top.specs.Knows.{Links, Finds, NextGives, AfterKnowing, StageKnows, IsCreate, IsStat, FindKnows, MissKnows, PlaceKnows, AskKnows, PoolKnows, spot_pages}
 use Rattle.tr_top.proofs.LoadSteps.{ground_denotes, load_gives, pool_gives}
 use Rattle.tr_top.proofs.AskSteps.{ask_gives}
-use Rattle.tr_top.proofs.ReplySteps.{exists_gives, notfound_gives, file_gives, counted_gives, nospace_gives}
-use Rattle.tr_top.proofs.Places.{page_inside, page_word_inside, dir_word_inside, pool_inside, place_inside, place_some, place_near, file_some, file_near, root_inside, control_inside}
+use Rattle.tr_top.proofs.ReplySteps.{exists_gives, notfound_gives, file_gives, nospace_gives}
+use Rattle.tr_top.proofs.Places.{page_inside, page_word_inside, dir_word_inside, pool_inside, place_inside, place_some, place_near, file_some, file_near}
 
 -- The pool is asked once a spot is chosen.
 pub ask_pool_gives : (coffer : Coffer) (command : Command) (head : ℕ) (spot : Spot) (addr : ℕ) → addr ≡ pool_head coffer.control.at 0 → AfterKnowing coffer command (AskKnows coffer command head spot) (next.Act (Load addr) (stage.Placing (Pool head spot)))
@@ -62,7 +52,6 @@ near_free words roles files [] at k c = omega (arith, c)
 near_free words roles files (e ∷ frees) at k c = subst (λ n. n < 2 ^ 60) (sym c.0) (place_near words roles e k.built.size k.free.0)
 
 module _ (coffer : Coffer) (command : Command) (head word : ℕ) where
-
   -- what is known of the first free entry, at the directory's word for it
   free_chain_at : (words : List Word) (tree : List Member) (k : Links coffer command head words tree) → word ≡ value words (first_free_entry coffer.dir.at) → Chain words word k.ground.frees
   free_chain_at words tree k is = subst (λ n. Chain words n k.ground.frees) (sym (is ∙ ap (λ d. value words (first_free_entry d)) k.ground.dir)) k.ground.laid.free_chain

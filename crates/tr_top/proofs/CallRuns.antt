@@ -1,7 +1,7 @@
 -- What holds while a call runs, between two of its turns.
-use Rattle.std.proofs.Common.{◌≡◌, ℕ, List, [], ◌∷◌, ◌++◌, Option, Some, Ok, refl, sym, ap, subst, ◌∙◌}
+use Rattle.std.proofs.Common.{◌≡◌, ℕ, List, [], ◌∷◌, ◌++◌, Option, Some, Ok, sym, ap, subst, ◌∙◌}
 use Rattle.pm_words.specs.Word.{Word}
-use Rattle.tr_types.specs.Machine.{Machine, IsThread}
+use Rattle.tr_types.specs.Machine.{IsThread}
 use Rattle.tr_types.specs.World.{World, stepped}
 use Rattle.tr_types.specs.declared.command.Command.{Command}
 use Rattle.tr_types.specs.declared.entry.Entry.{Entry}

@@ -1,7 +1,6 @@
 -- Accepted words and an accepted script come to their end where no fault is counted and the trace has room.
-use Rattle.std.proofs.Common.{◌≡◌, ◌⊎◌, ℕ, ◌+◌, ◌-◌, ◌^◌, ◌<◌, ◌≤◌, List, [], ◌∷◌, ◌++◌, length, Option, Some, None, refl, sym, ap, subst, ◌∙◌, arith, inl, inr, append-nil}
+use Rattle.std.proofs.Common.{◌≡◌, ℕ, ◌+◌, ◌-◌, ◌^◌, ◌<◌, ◌≤◌, List, ◌++◌, length, Option, Some, None, refl, sym, ap, subst, ◌∙◌, arith, inl, inr, append-nil}
 use Rattle.std.proofs.lemmas.List.{length-append}
-use Rattle.std.specs.Io.KnownBytes.{Consumes, IsAtEnd}
 use Rattle.tr_types.specs.declared.entry.Entry.{Entry}
 use Rattle.tr_outside.specs.Causes.{Rose}
 use Rattle.tr_outside.specs.Whole.{ReadsUpTo}
@@ -9,7 +8,7 @@ use Rattle.tr_top.specs.declared.script.Line.{Line}
 use Rattle.tr_top.specs.declared.status.Status.{Status}
 use Rattle.tr_top.specs.declared.status.Status.TheVariants.{Done, Usage, BadScript, ReadFault, WriteFault, NoMemory, Full}
 use Rattle.tr_top.specs.Grammar.{IsScript, text_limit}
-use Rattle.tr_top.specs.Top.{Outside, IsForm, Ends, IsAnswered, ReadsNoScript, RunEnds}
+use Rattle.tr_top.specs.Top.{Outside, IsForm, IsAnswered, ReadsNoScript, RunEnds}
 use Rattle.tr_top.specs.Completes.{NoFault, EndsWell}
 
 no_rise : (before after : ℕ) → after ≡ before → before < 2 ^ 64 - 1 → Rose before after → ⊥

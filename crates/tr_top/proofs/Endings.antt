@@ -1,5 +1,5 @@
 -- How a run ends, from how its parts ended.
-use Rattle.std.proofs.Common.{◌≡◌, ℕ, ◌<◌, ◌≤◌, List, [], ◌∷◌, ◌++◌, length, map, get_or, refl, sym, ap, subst, ◌∙◌, arith, inl, inr, append-nil, Option, Some, None, Ok, Err, Bool, true, IsTrue, ◌↔◌, zero, suc}
+use Rattle.std.proofs.Common.{◌≡◌, ℕ, List, [], ◌∷◌, length, get_or, refl, sym, ap, subst, ◌∙◌, arith, inl, inr, append-nil, Option, Some, None, Ok, Err, Bool, IsTrue, ◌↔◌}
 use Rattle.std.specs.Io.KnownBytes.{Appends, Keeps}
 use Rattle.std.specs.Cmp.Lexicographic.{pointwise}
 use Rattle.std.proofs.Common.{eqb}
@@ -18,9 +18,9 @@ use Rattle.tr_top.specs.declared.status.Status.{Status}
 use Rattle.tr_top.specs.declared.status.Status.TheVariants.{Done, Usage, BadScript, ReadFault, WriteFault, NoMemory, Full}
 use Rattle.tr_top.specs.Along.{IsAtEnd}
 use Rattle.tr_top.specs.Text.{brief_texts}
-use Rattle.tr_top.specs.Run.{IsRun, place_after, last_words}
+use Rattle.tr_top.specs.Run.{place_after}
 use Rattle.tr_top.specs.Running.{IsTied, Goes}
-use Rattle.tr_top.specs.Top.{Sinks, RunEnds, IsForm}
+use Rattle.tr_top.specs.Top.{Sinks, RunEnds}
 use Rattle.tr_top.specs.Ending.{IsSaved, stop_status}
 
 abbrev sinks_of : Option (List ℕ) → ℕ → Option (List ℕ) → ℕ → Sinks

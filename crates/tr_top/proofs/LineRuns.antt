@@ -1,5 +1,5 @@
 -- What holds between two lines of a script that runs.
-use Rattle.std.proofs.Common.{◌≡◌, ℕ, ◌+◌, ◌<◌, ◌≤◌, List, [], ◌∷◌, ◌++◌, length, take, drop, get_or, Option, Some, None, Ok, Bool, true, false, zero, refl, sym, ap, subst, ◌∙◌, arith, add-one, suc}
+use Rattle.std.proofs.Common.{◌≡◌, ℕ, ◌+◌, ◌<◌, List, [], ◌∷◌, length, take, drop, get_or, Option, None, Ok, Bool, true, false, zero, refl, sym, ap, subst, ◌∙◌, arith, suc}
 use Rattle.std.proofs.lemmas.List.{take_more, drop_more}
 use Rattle.pm_words.specs.Word.{Word}
 use Rattle.tr_types.specs.Fold.{Each, state_after}
@@ -9,7 +9,7 @@ use Rattle.tr_top.specs.declared.call.Coffer.{Coffer}
 use Rattle.tr_top.specs.declared.script.Line.{Line}
 use Rattle.tr_top.specs.declared.script.Line.TheVariants.{Mkfs, Process, Thread, Do}
 use Rattle.tr_top.specs.Grammar.{Declared, declared, nothing_declared, MayStand}
-use Rattle.tr_top.specs.Along.{Place, rest, IsAtEnd}
+use Rattle.tr_top.specs.Along.{rest}
 use Rattle.tr_top.specs.Run.{world_after, place_after, pages_made}
 use Rattle.tr_top.specs.Running.{IsTied, IsQuiet, Goes, IsLike, IsNextLine, Passes}
 

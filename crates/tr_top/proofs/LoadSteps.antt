@@ -1,5 +1,5 @@
 -- What a call gives with a load: the words and the tree stay, and the call knows the word.
-use Rattle.std.proofs.Common.{◌≡◌, ℕ, List, Option, Some, None, Bool, true, false, refl, sym, ap, subst, ◌∙◌, length, eq-eqb}
+use Rattle.std.proofs.Common.{◌≡◌, ℕ, List, None, Bool, true, refl, sym, subst, length, eq-eqb}
 use Rattle.pm_words.specs.Word.{Word}
 use Rattle.pm_words.specs.Memory.{IsAddress}
 use Rattle.tr_types.specs.Machine.{Answers}
@@ -15,7 +15,6 @@ use Rattle.tr_types.specs.declared.entry.Mark.TheVariants.{Plain}
 use Rattle.tr_top.specs.declared.call.Coffer.{Coffer}
 use Rattle.tr_top.specs.declared.call.Next.TheVariants as next
 use Rattle.tr_top.specs.declared.call.Stage.{Stage}
-use Rattle.tr_top.specs.Laid.{tree_of}
 use Rattle.tr_top.specs.Knows.{Ground, Goes, NextGives, StageKnows, IsRunning}
 use Rattle.tr_top.proofs.DenoteLaws.{built_denotes}
 

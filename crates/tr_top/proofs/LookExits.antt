@@ -1,14 +1,11 @@
 -- What comes after a step of a look-up or of a count.
-use Rattle.std.proofs.Common.{◌≡◌, ◌≢◌, ◌⊎◌, ℕ, ◌+◌, ◌^◌, ◌<◌, ◌≤◌, List, [], ◌∷◌, length, map, drop, codes, Contains, Bool, true, false, refl, sym, ap, subst, ◌∙◌, arith, inl, inr, eqb, T}
+use Rattle.std.proofs.Common.{◌≡◌, ◌≢◌, ◌⊎◌, ℕ, ◌^◌, ◌<◌, ◌≤◌, List, [], ◌∷◌, length, map, drop, Contains, true, false, refl, sym, ap, subst, ◌∙◌, arith, inl, inr, eqb, T}
 use Rattle.std.proofs.Math.Dec.{eqb→eq}
 use Rattle.std.specs.List.{list_any, AllByRecursion, IsDistinct}
 use Rattle.std.proofs.lemmas.Bool.{ne_eqb}
-use Rattle.std.proofs.lemmas.Grind.{common_steps}
 use Rattle.std.proofs.lemmas.Map.Steps.{length-le_from_distinct_below}
 use Rattle.std.proofs.lemmas.Map.Views.{Contains-from_any}
 use Rattle.pm_words.specs.Word.{Word}
-use Rattle.pm_words.specs.Memory.{IsPages}
-use Rattle.tr_types.specs.KernelView.{pages_of}
 use Rattle.tr_types.specs.Tree.{Member}
 use Rattle.tr_types.specs.Denotes.{dir_of}
 use Rattle.tr_types.specs.World.{Phase}
@@ -31,7 +28,7 @@ use Rattle.tr_top.specs.declared.lookup.LookStep.TheVariants as look_step
 use Rattle.tr_top.specs.Grammar.{IsCommand, IsPathOfOne}
 use Rattle.tr_top.specs.Laid.{Role, FileAt, IsBuilt, AreDistinct}
 use Rattle.tr_top.specs.Looking.{LookKnows, LookGives, CountKnows, CountGives}
-use Rattle.tr_top.specs.Knows.{Ground, NextGives, AfterKnowing, StageKnows, FindKnows, MissKnows, IsCreate, IsStat, name_of, path_of}
+use Rattle.tr_top.specs.Knows.{AfterKnowing, StageKnows, FindKnows, MissKnows, IsCreate, IsStat, name_of}
 use Rattle.tr_top.proofs.LoadSteps.{ground_denotes, load_gives}
 use Rattle.tr_top.proofs.ReplySteps.{counted_gives}
 use Rattle.tr_top.proofs.Places.{place_near}

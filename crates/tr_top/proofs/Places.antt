@@ -1,12 +1,11 @@
 -- Where the words of the root coffer lie: each is a word of the memory, at an address that is near and not 0.
-use Rattle.std.proofs.Common.{◌≡◌, ◌≢◌, ℕ, ◌+◌, ◌*◌, ◌/◌, ◌^◌, ◌<◌, ◌≤◌, List, [], ◌∷◌, length, map, Contains, refl, sym, ap, subst, ◌∙◌, arith}
-use Rattle.std.proofs.lemmas.Map.Steps.{length-le_from_distinct_below}
+use Rattle.std.proofs.Common.{◌≡◌, ℕ, ◌+◌, ◌*◌, ◌^◌, ◌<◌, List, length, sym, subst, arith}
 use Rattle.pm_words.specs.Word.{Word}
 use Rattle.pm_words.specs.Memory.{IsAddress, IsPages}
-use Rattle.tr_types.specs.Layout.{page_at, word_of, root_control, root_page, kernel_pages, journal_pages, owner_pages, bucket_head, bucket_of, first_free_entry, first_entry_page, pool_head, file_map}
+use Rattle.tr_types.specs.Layout.{page_at, word_of, root_control, root_page, pool_head}
 use Rattle.tr_types.specs.KernelView.{pages_of}
-use Rattle.tr_types.specs.Denotes.{value, Chain, dir_of, control_of}
-use Rattle.tr_top.specs.Laid.{Role, FileAt, IsBuilt, IsLaid, IsPlaceOf, HasFile, AreFree}
+use Rattle.tr_types.specs.Denotes.{dir_of, control_of}
+use Rattle.tr_top.specs.Laid.{Role, FileAt, IsPlaceOf, HasFile}
 
 -- word i of a page of the memory
 pub page_word_inside : (words : List Word) (page i : ℕ) → IsPages (length words) (pages_of words) → page < pages_of words → i < 512 → IsAddress (length words) (word_of (page_at page) i)

@@ -1,5 +1,5 @@
 -- What each entry of a run keeps: it is legal, the words denote the tree after it, and what comes next knows its ground.
-use Rattle.std.proofs.Common.{◌≡◌, ◌≢◌, ℕ, ◌-◌, ◌+◌, ◌<◌, ◌≤◌, List, [], ◌∷◌, ◌++◌, length, cond, Bool, true, false, Option, Some, None, refl, sym, ap, subst, ◌∙◌, arith, eq-eqb, ne_eqb, ◌==◌, OnOk, Ok, Err, Bor}
+use Rattle.std.proofs.Common.{◌≡◌, ◌≢◌, ℕ, ◌-◌, ◌≤◌, List, [], ◌∷◌, ◌++◌, length, cond, Bool, true, false, Option, Some, None, refl, sym, ap, subst, ◌∙◌, arith, eq-eqb, ne_eqb, ◌==◌, OnOk, Ok, Err, Bor}
 use Rattle.std.specs.List.{slice_get}
 use Rattle.std.specs.Option.{unwrap_or, option_copied}
 use Rattle.std.specs.declared.result.Result.{Result}
@@ -7,10 +7,9 @@ use Rattle.std.proofs.Math.Seq.{get_or-append_seam}
 use Rattle.std.proofs.lemmas.Option.{slice_get-get_or}
 use Rattle.pm_words.specs.Word.{Word}
 use Rattle.pm_words.specs.Memory.{all_durable}
-use Rattle.tr_types.specs.Denotes.{Denotes, control_of, dir_of}
 use Rattle.tr_types.specs.KernelView.{pages_of}
 use Rattle.tr_types.specs.Layout.{page_at, root_control, root_page}
-use Rattle.tr_types.specs.Machine.{Machine, Answers}
+use Rattle.tr_types.specs.Machine.{Answers}
 use Rattle.tr_types.specs.NewImage.{new_image}
 use Rattle.tr_types.specs.Traces.{answer_in, last_answer}
 use Rattle.tr_types.specs.Tree.{new_tree}
@@ -30,9 +29,9 @@ use Rattle.tr_top.specs.declared.call.Stage.TheVariants as stage
 use Rattle.tr_top.specs.declared.runner.Stop.{Stop}
 use Rattle.tr_top.specs.declared.script.Line.{Line}
 use Rattle.tr_top.specs.Grammar.{IsCommand}
-use Rattle.tr_top.specs.Knows.{Ground, StageKnows, StepsFrom, StepGives, ActGives, ReplyGives}
+use Rattle.tr_top.specs.Knows.{Ground, StageKnows, StepsFrom, ActGives, ReplyGives}
 use Rattle.tr_top.specs.Run.{IsRight, world_after, pages_made}
-use Rattle.tr_top.specs.Running.{IsTied, IsQuiet, IsAtStage, IsTurned, answer_after}
+use Rattle.tr_top.specs.Running.{IsQuiet, IsAtStage, answer_after}
 use Rattle.tr_top.proofs.FreePages.{pages_are, size_opened}
 use Rattle.tr_top.proofs.LoadSteps.{ground_denotes}
 use Rattle.tr_top.proofs.NewLaws.{laid_new, roles_in_new}

@@ -1,16 +1,15 @@
 -- A run with one more entry.
-use Rattle.std.proofs.Common.{◌≡◌, ℕ, ◌+◌, ◌*◌, ◌/◌, ◌≤◌, ◌<◌, List, [], ◌∷◌, ◌++◌, length, map, refl, sym, ap, subst, ◌∙◌, arith, inl, inr, append_assoc, append-nil, Option, Some, None, Ok, Err, Bool, true, false, OnOk}
+use Rattle.std.proofs.Common.{◌≡◌, ℕ, ◌+◌, ◌*◌, ◌/◌, ◌≤◌, ◌<◌, List, [], ◌∷◌, ◌++◌, length, refl, sym, ap, subst, ◌∙◌, arith, append_assoc, append-nil, Option, Some, None, Ok, Err, false, OnOk}
 use Rattle.std.proofs.lemmas.List.FromFn.{length-map-range_with_len}
 use Rattle.std.specs.declared.result.Result.{Result}
 use Rattle.std.specs.Io.KnownBytes.{Appends}
 use Rattle.pm_words.specs.Word.{Word}
 use Rattle.pm_words.specs.Memory.{all_durable, present_values}
 use Rattle.pm_words.proofs.WordLemmas.{length_all_durable, present_all_durable}
-use Rattle.tr_types.specs.Fold.{Each, state_after}
+use Rattle.tr_types.specs.Fold.{state_after}
 use Rattle.tr_types.specs.Layout.{page_at, root_control, root_page}
 use Rattle.tr_types.specs.NewImage.{new_image, new_word}
-use Rattle.tr_types.specs.KernelView.{pages_of}
-use Rattle.tr_types.specs.Machine.{Answers, IsThread, acted}
+use Rattle.tr_types.specs.Machine.{Answers, IsThread}
 use Rattle.tr_types.specs.World.{World, stepped, MayCome, world_of}
 use Rattle.tr_types.specs.declared.action.Action.{Action}
 use Rattle.tr_types.specs.declared.action.Answer.{Answer}
@@ -19,7 +18,6 @@ use Rattle.tr_types.specs.declared.entry.Entry.TheVariants as entry
 use Rattle.tr_types.specs.declared.entry.Mark.{Mark}
 use Rattle.tr_types.specs.declared.command.Reply.{Reply}
 use Rattle.tr_types.proofs.FoldLemmas.{state_after_more, Each_more}
-use Rattle.tr_outside.specs.Causes.{Rose}
 use Rattle.tr_outside.specs.Whole.{AppendsFront}
 use Rattle.tr_top.specs.declared.call.Coffer.{Coffer}
 use Rattle.tr_top.specs.declared.call.CallRun.{CallRun}
@@ -30,8 +28,8 @@ use Rattle.tr_top.specs.declared.script.Line.TheVariants.{Mkfs}
 use Rattle.tr_top.specs.Grammar.{declared, nothing_declared, MayStand}
 use Rattle.tr_top.specs.Along.{Place, Running, MayFollow, IsNext, IsAtEnd, followed, start_of}
 use Rattle.tr_top.specs.Text.{brief_text, brief_texts}
-use Rattle.tr_top.specs.Run.{IsRun, IsRight, trace_limit, pages_made, world_after, place_after, opening}
-use Rattle.tr_top.specs.Running.{Added, Told, Goes, IsTied, IsFullAt, IsStill, IsActionAt, IsCallOf, IsNextLine}
+use Rattle.tr_top.specs.Run.{IsRun, IsRight, pages_made, world_after, place_after, opening}
+use Rattle.tr_top.specs.Running.{Added, Goes, IsTied, IsFullAt, IsStill, IsActionAt, IsCallOf, IsNextLine}
 
 pub world_more : (lines : List Line) (t : List Entry) (e : Entry) → world_after lines (t ++ e ∷ []) ≡ stepped (world_after lines t) e
 world_more lines t e = state_after_more stepped (world_of (opening lines)) t e

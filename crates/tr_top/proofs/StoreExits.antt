@@ -1,10 +1,9 @@
 -- What comes after a step of a plan, and after an answer on the way to a plan.
-use Rattle.std.proofs.Common.{◌≡◌, ◌≢◌, ◌⊎◌, ℕ, ◌+◌, ◌<◌, ◌≤◌, List, [], ◌∷◌, ◌++◌, length, take, get_or, codes, Option, Some, None, Bool, true, false, refl, sym, ap, subst, ◌∙◌, arith, inl, inr}
+use Rattle.std.proofs.Common.{◌≡◌, ◌⊎◌, ℕ, ◌<◌, ◌≤◌, List, [], ◌∷◌, ◌++◌, length, take, get_or, Option, Some, None, refl, sym, ap, subst, ◌∙◌, arith, inl, inr}
 use Rattle.pm_words.specs.Word.{Word}
-use Rattle.tr_types.specs.Denotes.{dir_of}
 use Rattle.tr_types.specs.Layout.{page_at, entry_place}
 use Rattle.tr_types.specs.Tree.{Member}
-use Rattle.tr_types.specs.World.{Phase, Runs}
+use Rattle.tr_types.specs.World.{Phase}
 use Rattle.tr_types.specs.declared.action.Action.TheVariants.{Store}
 use Rattle.tr_types.specs.declared.action.Answer.TheVariants.{Word as WordIs}
 use Rattle.tr_types.specs.declared.command.Command.{Command}
@@ -21,7 +20,7 @@ use Rattle.tr_top.specs.declared.plan.Spot.TheVariants.{Free, Fresh}
 use Rattle.tr_top.specs.Plans.{pair_at, free_entry_pairs, fresh_page_pairs, commit_pair}
 use Rattle.tr_top.specs.Grammar.{IsCommand}
 use Rattle.tr_top.specs.Laid.{stored_all}
-use Rattle.tr_top.specs.Knows.{Links, NextGives, AfterKnowing, StageKnows, PlacingKnows, AskKnows, FillKnows, RunKnows, Prepares, Stored, spot_pairs, spot_entry, name_of}
+use Rattle.tr_top.specs.Knows.{NextGives, AfterKnowing, PlacingKnows, AskKnows, FillKnows, RunKnows, Prepares, Stored, spot_pairs, spot_entry, name_of}
 use Rattle.tr_top.proofs.PlanLemmas.{pair_at_commit, pair_at_over}
 use Rattle.std.proofs.Math.Nat.{eq-or-lt_of_le}
 use Rattle.std.proofs.lemmas.List.{get_or_append_left, length-append}

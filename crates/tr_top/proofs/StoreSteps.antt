@@ -1,5 +1,5 @@
 -- What a call gives with a store of its plan: a preparing one keeps the tree, and the commit makes the file.
-use Rattle.std.proofs.Common.{◌≡◌, ◌≢◌, ℕ, ◌+◌, ◌-◌, ◌<◌, ◌≤◌, List, [], ◌∷◌, ◌++◌, length, take, get_or, fold, Option, Some, None, Bool, true, false, refl, sym, ap, subst, ◌∙◌, arith, eq-eqb, inl, inr, eqb}
+use Rattle.std.proofs.Common.{◌≡◌, ◌≢◌, ℕ, ◌+◌, ◌<◌, ◌≤◌, List, [], ◌∷◌, ◌++◌, length, take, get_or, None, true, refl, sym, ap, subst, ◌∙◌, arith, eq-eqb, inl, inr}
 use Rattle.std.proofs.lemmas.Bool.{ne_eqb}
 use Rattle.std.proofs.lemmas.List.{take_more, take_all}
 use Rattle.std.proofs.lemmas.List.Sums.{fold-append}
@@ -10,7 +10,7 @@ use Rattle.tr_types.specs.Layout.{bucket_head, bucket_of}
 use Rattle.tr_types.specs.Machine.{Answers}
 use Rattle.tr_types.specs.Marks.{mark_of}
 use Rattle.tr_types.specs.Tree.{Member, tree_after, reply_to, IsChange}
-use Rattle.tr_types.specs.Denotes.{value, Denotes, dir_of, control_of}
+use Rattle.tr_types.specs.Denotes.{Denotes, dir_of, control_of}
 use Rattle.tr_types.specs.World.{Phase, Runs, Committed}
 use Rattle.tr_types.specs.declared.action.Action.TheVariants.{Store}
 use Rattle.tr_types.specs.declared.action.Answer.{Answer}
@@ -19,16 +19,14 @@ use Rattle.tr_types.specs.declared.action.FaultKind.TheVariants.{NotMapped, NotW
 use Rattle.tr_types.specs.declared.command.Command.{Command}
 use Rattle.tr_types.specs.declared.command.Command.TheVariants.{Create, Stat}
 use Rattle.tr_types.specs.declared.command.Reply.TheVariants.{Made}
-use Rattle.tr_types.specs.declared.entry.Mark.{Mark}
 use Rattle.tr_types.specs.declared.entry.Mark.TheVariants.{Plain, Commit}
 use Rattle.tr_top.specs.declared.call.Coffer.{Coffer}
 use Rattle.tr_top.specs.declared.call.Next.TheVariants as next
-use Rattle.tr_top.specs.declared.call.Stage.{Stage}
 use Rattle.tr_top.specs.declared.call.Stage.TheVariants as stage
 use Rattle.tr_top.specs.declared.plan.PlanRun.{PlanRun}
 use Rattle.tr_top.specs.Grammar.{IsCommand}
-use Rattle.tr_top.specs.Laid.{tree_of, IsBuilt, stored_all}
-use Rattle.tr_top.specs.Knows.{Ground, Goes, NextGives, StageKnows, Prepares, Stored, IsCreate, name_of, spot_pairs, spot_entry}
+use Rattle.tr_top.specs.Laid.{IsBuilt, stored_all}
+use Rattle.tr_top.specs.Knows.{Ground, Goes, NextGives, Prepares, IsCreate, name_of, spot_pairs, spot_entry}
 use Rattle.tr_top.proofs.DenoteLaws.{built_denotes}
 use Rattle.tr_top.proofs.LoadSteps.{ground_denotes}
 use Rattle.tr_top.proofs.SpotLaws.{PlanKeeps, IsApart, spot_keeps, spot_commits, head_inside, head_past, change_of}

@@ -1,5 +1,5 @@
 -- When a call must come to its end.
-use Rattle.std.specs.Prelude.{◌≡◌, ℕ, ◌-◌, ◌<◌, ◌≤◌, ◌^◌, List, length}
+use Rattle.std.specs.Prelude.{◌≡◌, ◌-◌, ◌<◌, ◌≤◌, ◌^◌, List, length}
 use Rattle.tr_types.specs.declared.entry.Entry.{Entry}
 use Rattle.tr_top.specs.declared.status.Status.{Status}
 use Rattle.tr_top.specs.declared.status.Status.TheVariants.{Done, Full, NoMemory}

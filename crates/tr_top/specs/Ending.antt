@@ -1,12 +1,12 @@
 -- What the parts of the top call answer.
 use Rattle.std.specs.Prelude.{◌≡◌, ◌≤◌, ℕ, List, Option}
-use Rattle.std.specs.Io.KnownBytes.{Appends, Keeps}
+use Rattle.std.specs.Io.KnownBytes.{Appends}
 use Rattle.tr_outside.specs.Causes.{Rose}
 use Rattle.tr_outside.specs.Whole.{AppendsFront}
 use Rattle.tr_top.specs.declared.runner.Stop.{Stop}
 use Rattle.tr_top.specs.declared.runner.Stop.TheVariants as stop
 use Rattle.tr_top.specs.declared.status.Status.{Status}
-use Rattle.tr_top.specs.declared.status.Status.TheVariants.{Done, Usage, BadScript, ReadFault, WriteFault, NoMemory, Full}
+use Rattle.tr_top.specs.declared.status.Status.TheVariants.{Done, BadScript, ReadFault, WriteFault, NoMemory, Full}
 use Rattle.tr_top.specs.Top.{ReadsNoScript}
 
 abbrev pub stop_status : Stop → Status

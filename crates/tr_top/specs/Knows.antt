@@ -1,13 +1,12 @@
 -- What a call knows between two of its actions, stage by stage, and what it gives with each.
-use Rattle.std.specs.Prelude.{◌≡◌, ◌≢◌, ◌⊎◌, ℕ, ◌+◌, ◌<◌, ◌≤◌, List, [], ◌∷◌, ◌++◌, length, take, codes, Contains, Option, Some, None, Bool, true, false}
+use Rattle.std.specs.Prelude.{◌≡◌, ◌≢◌, ◌⊎◌, ℕ, ◌+◌, ◌<◌, ◌≤◌, List, [], ◌∷◌, length, take, codes, Contains, Some, None, Bool, true, false}
 use Rattle.pm_words.specs.Word.{Word}
-use Rattle.pm_words.specs.Memory.{IsAddress}
-use Rattle.tr_types.specs.Layout.{page_at, bucket_head, bucket_of, entry_place, first_entry_page, first_free_entry, file_map, pool_head}
+use Rattle.tr_types.specs.Layout.{page_at, bucket_head, bucket_of, entry_place, first_free_entry, file_map}
 use Rattle.tr_types.specs.Machine.{Answers, acted}
 use Rattle.tr_types.specs.Marks.{mark_of, name_in_root}
 use Rattle.tr_types.specs.Tree.{Member}
 use Rattle.tr_types.specs.Denotes.{value, control_of, dir_of, Denotes}
-use Rattle.tr_types.specs.World.{Phase, Idle, Runs, Committed, Shortage, phase_after, changed, pool_of, IsLegalAct, MayReply}
+use Rattle.tr_types.specs.World.{Phase, Runs, Committed, phase_after, changed, pool_of, IsLegalAct, MayReply}
 use Rattle.tr_types.specs.declared.action.Action.{Action}
 use Rattle.tr_types.specs.declared.action.Answer.{Answer}
 use Rattle.tr_types.specs.declared.action.Answer.TheVariants.{Word as WordIs, Done, Kern}

@@ -1,6 +1,6 @@
 -- How the words of the root coffer lie while its calls make files: what each page is for, the files with their entries
 -- and pages, the newest first, and the free entries.
-use Rattle.std.specs.Prelude.{◌≡◌, ◌≢◌, ℕ, ◌+◌, ◌*◌, ◌<◌, ◌≤◌, List, [], ◌∷◌, ◌++◌, length, Contains, fold, if◌then◌else◌, ◌==◌}
+use Rattle.std.specs.Prelude.{◌≡◌, ◌≢◌, ℕ, ◌<◌, ◌≤◌, List, [], ◌∷◌, ◌++◌, length, Contains, fold, if◌then◌else◌, ◌==◌}
 use Rattle.pm_words.specs.Word.{Word}
 use Rattle.pm_words.specs.Memory.{store_at, IsPages}
 use Rattle.tr_types.specs.Layout.{page_at, root_control, root_page, bucket_head, bucket_of, entry_place, entry_target, first_free_entry, file_map, pool_head, word_of}

@@ -1,6 +1,6 @@
 -- What the top call has done, by the status that it answers.
 use Rattle.std.specs.Prelude.{◌≡◌, ◌↔◌, ◌⊎◌, ℕ, ◌+◌, ◌≤◌, List, [], ◌∷◌, length, Option, codes}
-use Rattle.std.specs.Io.KnownBytes.{Appends, Keeps, Consumes, IsAtEnd as IsAtEndOfBytes}
+use Rattle.std.specs.Io.KnownBytes.{Appends, Consumes, IsAtEnd as IsAtEndOfBytes}
 use Rattle.tr_types.specs.declared.entry.Entry.{Entry}
 use Rattle.tr_outside.specs.Causes.{Rose}
 use Rattle.tr_outside.specs.ImageBytes.{image_bytes}

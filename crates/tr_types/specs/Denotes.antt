@@ -1,5 +1,5 @@
 -- What the words of an image denote: the tree of the root coffer, which has one directory, of empty files.
-use Rattle.std.specs.Prelude.{◌≡◌, ◌⊎◌, ℕ, ◌+◌, ◌*◌, ◌/◌, ◌%◌, ◌^◌, ◌<◌, ◌≤◌, List, [], ◌∷◌, length, slice_index, Contains, Option, Some, None}
+use Rattle.std.specs.Prelude.{◌≡◌, ℕ, ◌/◌, ◌%◌, ◌^◌, ◌<◌, ◌≤◌, List, [], ◌∷◌, length, slice_index, Contains, Some}
 use Rattle.pm_words.specs.Word.{Word}
 use Rattle.pm_words.specs.Memory.{word_at}
 use Rattle.tr_types.specs.Layout.{page_at, root_control, root_page, bucket_head, bucket_of, entry_place, entry_target, name_length, name_word, file_map, word_of}

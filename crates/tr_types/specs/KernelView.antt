@@ -1,5 +1,5 @@
 -- What the kernel's pages say of the pages of an image.
-use Rattle.std.specs.Prelude.{ℕ, ◌/◌, List, length, fold, filter, take, ◌==◌}
+use Rattle.std.specs.Prelude.{ℕ, ◌/◌, List, length, fold, filter, ◌==◌}
 use Rattle.std.specs.List.{range_with_len}
 use Rattle.pm_words.specs.Word.{Word}
 use Rattle.pm_words.specs.Memory.{word_at, store_at}

@@ -1,6 +1,6 @@
 -- Where the fields of an image of a number of pages stand. A page has 4,096 bytes, a word has 8.
 -- Addresses are in bytes.
-use Rattle.std.specs.Prelude.{ℕ, ◌+◌, ◌-◌, ◌*◌, ◌/◌, ◌%◌, ◌^◌, List, fold, bit_xor}
+use Rattle.std.specs.Prelude.{ℕ, ◌+◌, ◌*◌, ◌/◌, ◌%◌, ◌^◌, List, fold, bit_xor}
 
 -- the address of a page, by its number
 abbrev pub page_at : ℕ → ℕ

@@ -1,16 +1,15 @@
 -- The machine. An entry of a trace is a test on the machine before it (`Fits`) and a total function to the machine
 -- after it (`moved`). Cases that no entry has yet are `⊥`.
-use Rattle.std.specs.Prelude.{◌≡◌, ℕ, ◌<◌, ◌≤◌, List, [], ◌∷◌, ◌++◌, length, take, map, Bool, true, false, Contains, Option, Some, None}
+use Rattle.std.specs.Prelude.{◌≡◌, ℕ, ◌<◌, ◌≤◌, List, [], ◌∷◌, ◌++◌, length, take, map, Bool, true, false, Contains}
 use Rattle.pm_words.specs.Word.{Word}
 use Rattle.pm_words.specs.Memory.{word_at, store_at, all_durable, present_values, IsAddress}
 use Rattle.tr_types.specs.NewImage.{new_image}
 use Rattle.tr_types.specs.KernelView.{free_pages, given_to}
 use Rattle.tr_types.specs.declared.action.Action.{Action}
-use Rattle.tr_types.specs.declared.action.Action.TheVariants.{Load, Store, Cas, Flush, Fence, Pkru, Kernel}
+use Rattle.tr_types.specs.declared.action.Action.TheVariants.{Load, Store, Kernel}
 use Rattle.tr_types.specs.declared.action.Answer.{Answer}
 use Rattle.tr_types.specs.declared.action.Answer.TheVariants.{Word as WordIs, Done, Fault, Kern}
-use Rattle.tr_types.specs.declared.action.FaultKind.{FaultKind}
-use Rattle.tr_types.specs.declared.action.FaultKind.TheVariants.{NotMapped, NotWritable, KeyDenied}
+use Rattle.tr_types.specs.declared.action.FaultKind.TheVariants.{NotMapped}
 use Rattle.tr_types.specs.declared.kernel_call.Kcall.{Kcall}
 use Rattle.tr_types.specs.declared.kernel_call.Kcall.TheVariants.{Enlarge}
 use Rattle.tr_types.specs.declared.kernel_call.KernAnswer.{KernAnswer}

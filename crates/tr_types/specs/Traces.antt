@@ -1,5 +1,5 @@
 -- What a trace shows.
-use Rattle.std.specs.Prelude.{ℕ, ◌-◌, List, length, slice_get, Option, Some, None}
+use Rattle.std.specs.Prelude.{◌-◌, List, length, slice_get, Option, Some, None}
 use Rattle.tr_types.specs.declared.action.Answer.{Answer}
 use Rattle.tr_types.specs.declared.entry.Entry.{Entry}
 use Rattle.tr_types.specs.declared.entry.Entry.TheVariants.{Act}

@@ -1,4 +1,4 @@
-use Rattle.std.proofs.Common.{◌≡◌, refl, sym, ap, ◌∙◌, subst}
+use Rattle.std.proofs.Common.{sym, ◌∙◌}
 use Rattle.tr_top.proofs.StoreExits.{low_gives, store_gives, none_gives}
 use Rattle.tr_top.proofs.call.CallRun.give_store.Goals as goal
 

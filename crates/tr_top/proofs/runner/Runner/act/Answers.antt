@@ -1,8 +1,6 @@
-use Rattle.std.proofs.Common.{◌≡◌, List, refl, sym, ap, ◌∙◌, subst, arith}
+use Rattle.std.proofs.Common.{List, ap, ◌∙◌}
 use Rattle.pm_words.specs.Word.{Word}
-use Rattle.tr_types.specs.Machine.{Answers, acted}
-use Rattle.tr_types.specs.World.{MayCome}
-use Rattle.tr_types.specs.declared.entry.Entry.TheVariants.{Act}
+use Rattle.tr_types.specs.Machine.{acted}
 use Rattle.tr_top.specs.Run.{world_after, place_after}
 use Rattle.tr_top.proofs.RunLemmas.{run_more, goes_added, tied_added, act_follows, act_comes}
 use Rattle.tr_top.proofs.runner.Runner.act.Goals as goal

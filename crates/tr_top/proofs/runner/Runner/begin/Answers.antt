@@ -1,6 +1,3 @@
-use Rattle.std.proofs.Common.{sym, ap, ◌∙◌, ◌/◌, length, arith, refl}
-use Rattle.pm_words.proofs.WordLemmas.{length_all_durable}
-use Rattle.tr_types.specs.NewImage.{new_image}
 use Rattle.tr_top.proofs.RunLemmas.{tied_first}
 use Rattle.tr_top.proofs.RightSteps.{quiet_first}
 use Rattle.tr_top.proofs.runner.Runner.begin.Goals as goal

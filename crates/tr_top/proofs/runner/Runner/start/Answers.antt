@@ -1,4 +1,4 @@
-use Rattle.std.proofs.Common.{refl, sym, ap, ◌∙◌, subst, OnOk}
+use Rattle.std.proofs.Common.{refl, sym, ◌∙◌}
 use Rattle.tr_top.proofs.RunLemmas.{run_more, goes_added, tied_added, still_words}
 use Rattle.tr_top.specs.Run.{world_after}
 use Rattle.tr_top.proofs.runner.Runner.start.Goals as goal

@@ -1,7 +1,7 @@
-use Rattle.std.proofs.Common.{◌≡◌, refl, sym, ap, ◌∙◌, subst, arith}
+use Rattle.std.proofs.Common.{◌≡◌, refl, ◌∙◌, subst}
 use Rattle.std.proofs.lemmas.Result.{err_from_is_err_and}
 use Rattle.tr_types.specs.declared.entry.Entry.TheVariants.{Reply}
-use Rattle.tr_top.specs.Run.{IsRight, world_after, place_after}
+use Rattle.tr_top.specs.Run.{place_after}
 use Rattle.tr_top.specs.Running.{answer_after}
 use Rattle.tr_top.specs.Knows.{StepsFrom}
 use Rattle.tr_top.specs.declared.call.CallStep.TheVariants as step
