@@ -1,0 +1,2 @@
+-- what the program's nodes stand for
+pub mod Nodes
