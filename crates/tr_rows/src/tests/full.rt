@@ -1,0 +1,45 @@
+// A run whose trace gets full.
+use super::run_text;
+use pm_words::NoMemory;
+use std::alloc::Global;
+use tr_top::Status;
+use tr_types::Entry;
+
+/// How often the root is asked for: more than a trace has room for.
+const QUESTIONS: usize = 300_000;
+
+/// The greatest number of entries of a trace.
+const TRACE_LIMIT: usize = 4_194_304;
+
+/// What a question prints, 22 bytes.
+const ANSWER: &str = "t1 info dir 1 0 0 666\n";
+
+fn long_script(alloc: Global) -> Result<String, NoMemory> {
+    let questions = "do t1 stat /\n".repeat(alloc, QUESTIONS)?;
+    Ok(format!(in alloc;
+        "mkfs 64\nprocess p1 0 0\nthread t1 p1\ndo t1 create /f 666\n{questions}"
+    )?)
+}
+
+/// How many calls of the trace were answered.
+fn count_replies(entries: &[Entry]) -> usize {
+    entries
+        .iter()
+        .filter(|entry| matches!(entry, Entry::Reply { .. }))
+        .count()
+}
+
+#[test]
+fn each_reply_of_a_full_trace_is_printed(rt: HostRuntime) -> Result<(), NoMemory> {
+    let script = long_script(rt.alloc())?;
+    let ran = run_text(rt.alloc(), script.as_bytes(), 22 * QUESTIONS)?;
+    assert_eq!(rt; ran.outcome.status, Status::Full);
+    assert_eq!(rt; ran.outcome.trace.len(), TRACE_LIMIT);
+    assert!(rt; ran.saved.bytes().is_empty());
+    // the first reply is that of the `create`
+    let answered = count_replies(ran.outcome.trace.entries()).saturating_sub(1);
+    let answers = ANSWER.repeat(rt.alloc(), answered)?;
+    let replies = format!(in rt.alloc(); "t1 made\n{answers}")?;
+    assert!(rt; ran.out.bytes() == replies.as_bytes(), "{answered} answers");
+    Ok(())
+}
