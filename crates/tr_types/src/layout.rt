@@ -11,14 +11,6 @@ pub const PAGE_WORDS: u64 = 512;
 /// Bytes of a word.
 pub const WORD_BYTES: u64 = 8;
 
-/// The least and the greatest number of pages of an image.
-pub const MIN_PAGES: u32 = 64;
-
-pub const MAX_PAGES: u32 = 16384;
-
-/// Buckets of a directory.
-pub const BUCKETS: u64 = 256;
-
 /// Places for entries in an entry page.
 pub const ENTRIES_OF_PAGE: u64 = 12;
 
