@@ -99,8 +99,8 @@ quiet_still (Err stop) lines coffer then old new e quiet same added words tree p
 -- A call begins.
 pub call_right : (lines : List Line) (coffer : Coffer) (trace : List Entry) (thread : ℕ) (command : Command) → IsQuiet lines coffer trace → IsRight (world_after lines trace) (entry.Call thread command)
 call_right lines coffer trace thread command quiet = record {
-  legal = subst MayBegin (sym (quiet.idle thread)) tt;
-  denotes = ground_denotes coffer (world_after lines trace).machine.words (world_after lines trace).tree quiet.ground;
+  legal = λ _. subst MayBegin (sym (quiet.idle thread)) tt;
+  denotes = λ _. ground_denotes coffer (world_after lines trace).machine.words (world_after lines trace).tree quiet.ground;
 }
 
 pub call_begins : (lines : List Line) (coffer : Coffer) (old new : List Entry) (thread : ℕ) (command : Command) (call : CallRun) → IsQuiet lines coffer old → new ≡ old ++ entry.Call thread command ∷ [] → IsCommand command → call.coffer ≡ coffer → call.command.now ≡ command → call.stage ≡ stage.Begin → IsAtStage lines new thread call
@@ -128,7 +128,7 @@ module _ (lines : List Line) (trace : List Entry) (thread : ℕ) (old new : Call
   pub act_right : (answer : Answer) → Answers words action answer → IsRight w (entry.Act thread 0 mark action answer)
   act_right answer is =
       let goes = gives answer (subst (λ (l : List Word). Answers l action answer) tied is) in
-      record { legal = goes.legal; denotes = goes.denotes }
+      record { legal = λ _. goes.legal; denotes = λ _. goes.denotes }
 
   pub act_turns : (then : List Entry) (answer : Answer) → Answers words action answer → then ≡ trace ++ entry.Act thread 0 mark action answer ∷ [] → new.command.now ≡ old.command.now → IsAtStage lines then thread new
   act_turns then answer is added same =
@@ -151,7 +151,7 @@ module _ (lines : List Line) (coffer : Coffer) (trace : List Entry) (thread : �
       (steps k.valid (world_after lines trace).machine.words (world_after lines trace).tree ((world_after lines trace).phases thread) (subst (λ a. StageKnows old.coffer old.command.now old.stage a (world_after lines trace).machine.words (world_after lines trace).tree ((world_after lines trace).phases thread)) (sym heard) k.knows))
 
   pub reply_right : IsRight (world_after lines trace) (entry.Reply thread reply)
-  reply_right = record { legal = replies.0; denotes = ground_denotes coffer (world_after lines trace).machine.words (world_after lines trace).tree replies.1 }
+  reply_right = record { legal = λ _. replies.0; denotes = λ _. ground_denotes coffer (world_after lines trace).machine.words (world_after lines trace).tree replies.1 }
 
   pub reply_turns : (then : List Entry) → then ≡ trace ++ entry.Reply thread reply ∷ [] → IsQuiet lines coffer then
   reply_turns then added =

@@ -133,6 +133,35 @@ still_words w (entry.Skip line why) s = refl
 still_words w (entry.Quarantine path) s = refl
 still_words w (entry.Coffers list) s = refl
 
+-- Nothing is lost.
+lost_stays : (w : World) (e : Entry) → (stepped w e).lost ≡ w.lost
+lost_stays w (entry.Mkfs pages) = refl
+lost_stays w (entry.Process process cred) = refl
+lost_stays w (entry.Thread thread process) = refl
+lost_stays w (entry.Tick n) = refl
+lost_stays w (entry.Call thread command) = refl
+lost_stays w (entry.Act thread now mark action answer) = refl
+lost_stays w (entry.Reply thread reply) = refl
+lost_stays w (entry.Stray thread addr word answer) = refl
+lost_stays w (entry.Wild thread now action answer) = refl
+lost_stays w (entry.Corrupt process) = refl
+lost_stays w (entry.Kill process) = refl
+lost_stays w (entry.Crash pick) = refl
+lost_stays w (entry.CrashIn thread now call k pick) = refl
+lost_stays w (entry.Recovery action) = refl
+lost_stays w (entry.Recovered ready quarantined) = refl
+lost_stays w (entry.Lost path) = refl
+lost_stays w (entry.Skip line why) = refl
+lost_stays w (entry.Quarantine path) = refl
+lost_stays w (entry.Coffers list) = refl
+
+stays_lost : (w : World) (trace : List Entry) → (state_after stepped w trace).lost ≡ w.lost
+stays_lost w [] = refl
+stays_lost w (e ∷ trace) = stays_lost (stepped w e) trace ∙ lost_stays w e
+
+pub nothing_lost : (lines : List Line) (trace : List Entry) → (world_after lines trace).lost ≡ false
+nothing_lost lines trace = stays_lost (world_of (opening lines)) trace
+
 pub tied_more : (lines : List Line) (coffer : Coffer) (words next : List Word) (old new : List Entry) (e : Entry) → IsTied lines coffer words old → IsRun lines (old ++ e ∷ []) → new ≡ old ++ e ∷ [] → next ≡ (stepped (world_after lines old) e).machine.words → length next ≡ length words → IsTied lines coffer next new
 tied_more lines coffer words next old new e tied run is same len = record {
   run = subst (IsRun lines) (sym is) run;

@@ -1,6 +1,6 @@
 -- What a run of a script is: a trace that follows the script's lines and that the machine allows, from the new image
 -- that the script's first line makes, and whose entries are legal and keep the words and the tree together.
-use Rattle.std.specs.Prelude.{ℕ, ◌≤◌, List, [], ◌∷◌, length}
+use Rattle.std.specs.Prelude.{◌≡◌, ℕ, ◌≤◌, List, [], ◌∷◌, length, false}
 use Rattle.pm_words.specs.Memory.{present_values}
 use Rattle.tr_types.specs.Fold.{Each, state_after}
 use Rattle.tr_types.specs.NewImage.{new_image}
@@ -37,10 +37,11 @@ place_after lines trace = state_after followed (start_of lines) trace
 abbrev pub last_words : List Line → List Entry → List ℕ
 last_words lines trace = present_values (world_after lines trace).machine.words
 
--- the entry is legal, and after it the words denote the tree
+-- The entry is legal, and after it the words denote the tree, where nothing is lost. (Nothing is: the opening isn't, and
+-- no entry that a script gives now makes it so.)
 pub record IsRight (w : World) (e : Entry) : Type 0 where
-  pub legal : IsLegal w e
-  pub denotes : Denotes (stepped w e).machine.words (stepped w e).tree
+  pub legal : w.lost ≡ false → IsLegal w e
+  pub denotes : (stepped w e).lost ≡ false → Denotes (stepped w e).machine.words (stepped w e).tree
 
 -- the trace is a front of a run of the script
 pub record IsRun (lines : List Line) (trace : List Entry) : Type 0 where

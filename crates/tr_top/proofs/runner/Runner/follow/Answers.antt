@@ -8,13 +8,13 @@ pub start-requires-clause-allowed : goal.start-requires-clause-allowed
 start-requires-clause-allowed g c = mkfs_comes _ _ _ _ c.in-Mkfs.pages c.requires.next c.in-Mkfs.is
 
 pub start-requires-clause-right : goal.start-requires-clause-right
-start-requires-clause-right g c = record { legal = tt; denotes = ground_denotes _ _ _ c.requires.quiet.ground }
+start-requires-clause-right g c = record { legal = λ _. tt; denotes = λ _. ground_denotes _ _ _ c.requires.quiet.ground }
 
 pub start-requires-in-Process-clause-right : goal.start-requires-in-Process-clause-right
-start-requires-in-Process-clause-right g c = record { legal = tt; denotes = ground_denotes _ _ _ c.requires.quiet.ground }
+start-requires-in-Process-clause-right g c = record { legal = λ _. tt; denotes = λ _. ground_denotes _ _ _ c.requires.quiet.ground }
 
 pub start-requires-in-Thread-clause-right : goal.start-requires-in-Thread-clause-right
-start-requires-in-Thread-clause-right g c = record { legal = tt; denotes = ground_denotes _ _ _ c.requires.quiet.ground }
+start-requires-in-Thread-clause-right g c = record { legal = λ _. tt; denotes = λ _. ground_denotes _ _ _ c.requires.quiet.ground }
 
 pub returns-in-Mkfs-clause-quiet : goal.returns-in-Mkfs-clause-quiet
 returns-in-Mkfs-clause-quiet g c = quiet_still _ _ _ _ _ _ _ c.requires.quiet c.start.ensures.same.1 c.start.ensures.added refl refl (λ t. refl)
