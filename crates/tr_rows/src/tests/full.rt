@@ -38,6 +38,7 @@ fn each_reply_of_a_full_trace_is_printed(rt: HostRuntime) -> Result<(), NoMemory
     assert!(rt; ran.saved.bytes().is_empty());
     // the first reply is that of the `create`
     let answered = count_replies(ran.outcome.trace.entries()).saturating_sub(1);
+    assert!(rt; answered > 0);
     let answers = ANSWER.repeat(rt.alloc(), answered)?;
     let replies = format!(in rt.alloc(); "t1 made\n{answers}")?;
     assert!(rt; ran.out.bytes() == replies.as_bytes(), "{answered} answers");
