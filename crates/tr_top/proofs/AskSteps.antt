@@ -23,7 +23,7 @@ use Rattle.tr_top.specs.declared.plan.Spot.TheVariants.{Free, Fresh}
 use Rattle.tr_top.specs.Grammar.{IsCommand}
 use Rattle.tr_top.specs.Laid.{IsLaid, IsFresh, entries_in}
 use Rattle.tr_top.specs.Knows.{Ground, Links, Goes, NextGives, IsSpot, AreDrawn, name_of, spot_pages}
-use Rattle.tr_top.proofs.ReplySteps.{change_is_due}
+use Rattle.tr_top.proofs.ReplySteps.{change_is_due, few_pages}
 use Rattle.tr_top.proofs.EnlargeLaws.{laid_enlarge}
 use Rattle.tr_top.proofs.GivenLaws.{distinct_two}
 use Rattle.tr_top.proofs.LoadSteps.{ground_denotes}
@@ -118,7 +118,7 @@ module _ (coffer : Coffer) (command : Command) (head : ℕ) (spot : Spot) (words
   -- what the kernel answers, and what is known then
   answered : (answer : KernAnswer) → Answers words (Kernel (Enlarge 1 (spot_pages spot))) (Kern answer) → Goes coffer command (stage.Drawing head spot) Plain (Kernel (Enlarge 1 (spot_pages spot))) words tree (Runs command true None) (Kern answer)
   answered (kern.Pages pages') (one, least, most, (enough, are)) = record {
-    legal = (refl, refl, change_is_due coffer command head words tree k valid);
+    legal = (refl, refl, few_pages spot, change_is_due coffer command head words tree k valid);
     denotes = ground_denotes coffer _ tree (ground new enough is);
     knows = (links new enough is, spot_by new enough is spot at, subst (AreDrawn new k.ground.roles spot) (sym are) (drawn_by new enough is spot refl), refl);
   }
@@ -129,7 +129,7 @@ module _ (coffer : Coffer) (command : Command) (head : ℕ) (spot : Spot) (words
       is : new ≡ given_to 1 (take (spot_pages spot) (free_pages words)) words
       is = ap (λ l. given_to 1 l words) are
   answered (kern.NoPages asked free) (one, least, most, (few, asks, frees)) = record {
-    legal = (refl, refl, change_is_due coffer command head words tree k valid);
+    legal = (refl, refl, few_pages spot, change_is_due coffer command head words tree k valid);
     denotes = ground_denotes coffer words tree k.ground;
     knows = (k, asks, refl);
   }

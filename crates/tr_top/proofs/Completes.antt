@@ -26,10 +26,10 @@ no_refusal text lines left rest known script n =
     let read = all_read text n.text rest script.size (subst (λ l. ReadsUpTo (text_limit + 1) l rest n.text) known n.read) in
     n.none lines (subst (λ (t : List ℕ). IsScript t lines) (sym read) script)
 
-pub completes : (words : List (List ℕ)) (before after : Outside) (status : Status) (trace : List Entry) (text : List ℕ) (lines : List Line) → IsAnswered words before after status trace → IsForm words → before.script_left ≡ Some text → IsScript text lines → NoFault before after → EndsWell status trace
+pub completes : (words : List (List ℕ)) (before after : Outside) (status : Status) (trace : List Entry) (text : List ℕ) (lines : List Line) → IsAnswered words before after status trace → IsForm words → before.script_left ≡ Some text → IsScript text lines → NoFault before after → EndsWell before after status trace
 completes words before after Done trace text lines a form known script none = tt
 completes words before after NoMemory trace text lines a form known script none = tt
-completes words before after Full trace text lines a form known script none = a.ends.2.full
+completes words before after Full trace text lines a form known script none = (a.ends.0, a.ends.1, a.ends.2.full, a.ends.2.due)
 completes words before after Usage trace text lines a form known script none = absurd (a.usage.0 refl form)
 completes words before after (BadScript line column) trace text lines a form known script none = absurd (no_refusal text lines before.script_left after.script_left known script a.ends.1)
 completes words before after ReadFault trace text lines a form known script none = absurd (no_rise before.script_faults after.script_faults none.script.0 none.script.1 a.ends.1)

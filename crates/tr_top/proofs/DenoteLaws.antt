@@ -1,11 +1,11 @@
 -- Words that are built of files denote the tree of these files.
-use Rattle.std.proofs.Common.{◌≡◌, ◌⊎◌, inl, inr, ℕ, Bool, true, false, cond, ◌==◌, List, [], ◌∷◌, length, Contains, Some, refl, sym, ap, subst, ◌∙◌, arith, eqb-true, eq-eqb, ext_get_or}
+use Rattle.std.proofs.Common.{◌≡◌, ◌≢◌, ◌⊎◌, inl, inr, ℕ, Bool, true, false, cond, ◌==◌, List, [], ◌∷◌, length, Contains, Some, refl, sym, ap, subst, ◌∙◌, arith, eqb-true, eq-eqb, ext_get_or}
 use Rattle.std.proofs.lemmas.Bool.{cond-true}
 use Rattle.pm_words.specs.Word.{Word}
 use Rattle.tr_types.specs.Layout.{page_at, bucket_of, entry_target}
 use Rattle.tr_types.specs.Tree.{Node, node_at}
-use Rattle.tr_types.specs.Denotes.{value, IsNamed, IsShown, Denotes}
-use Rattle.tr_top.specs.Laid.{Role, FilePage, FileAt, AreDistinct, IsBuilt, entries_in, tree_of}
+use Rattle.tr_types.specs.Denotes.{value, page_of, IsNamed, IsShown, IsApart, Denotes}
+use Rattle.tr_top.specs.Laid.{Role, Entries, FilePage, FileAt, AreDistinct, IsBuilt, entries_in, tree_of}
 use Rattle.tr_top.proofs.TreeLaws.{contains_here, contains_there, contains_cases, contains_none, node_of_file, file_of_node, node_of_root, flat_tree}
 
 -- Entries of a bucket.
@@ -78,6 +78,8 @@ module _ (words : List Word) (roles : ℕ → Role) (files : List FileAt) (built
       subst (IsShown words (tree_of files) bucket) f.is (record {
         name = f.file.name;
         named = h.named;
+        some = h.some;
+        short = h.short;
         in_bucket = f.lies;
         file = record { page = f.file.page; coffers = h.coffers; target = h.target; kind = h.kind; map = h.map };
         stands = node_of_file files f.file f.has;
@@ -108,6 +110,32 @@ module _ (words : List Word) (roles : ℕ → Role) (files : List FileAt) (built
       = ap (λ (e : ℕ). value words (entry_target e)) f.is ∙ same ∙ ap (λ (e : ℕ). value words (entry_target e)) (sym g.is) in
       sym f.is ∙ same_target f.file g.file f.has g.has targets ∙ g.is
 
+  -- the page of an entry
+  page_is : (f : FileAt) (has : Contains files f) → page_of f.entry ≡ (built.each f has).place.page
+  page_is f has = let p = (built.each f has).place in omega (arith, p.is, p.twelve)
+
+  apart_file : (f : FileAt) → Contains files f → IsApart words f.entry
+  apart_file f has =
+      let h = built.each f has in
+      record { entry_page = omega (arith, page_is f has, h.place.past); file_page = omega (arith, h.target, h.past) }
+
+  apart : (b entry : ℕ) → Contains (entries_in b files) entry → IsApart words entry
+  apart b entry has = let f = file_of_entry files b entry has in subst (IsApart words) f.is (apart_file f.file f.has)
+
+  unshared_files : (f g : FileAt) → Contains files f → Contains files g → value words (entry_target g.entry) ≢ page_at (page_of f.entry)
+  unshared_files f g hf hg same =
+      let one = (built.each f hf).place in
+      let two = built.each g hg in
+      let pages : g.page ≡ one.page = omega (arith, two.target, same, page_is f hf) in
+      let roles_are : FilePage g.entry ≡ Entries = sym two.role ∙ ap roles pages ∙ one.role in
+      cc
+
+  unshared : (b c entry other : ℕ) → Contains (entries_in b files) entry → Contains (entries_in c files) other → value words (entry_target other) ≢ page_at (page_of entry)
+  unshared b c entry other one two same =
+      let f = file_of_entry files b entry one in
+      let g = file_of_entry files c other two in
+      unshared_files f.file g.file f.has g.has (ap (λ (e : ℕ). value words (entry_target e)) g.is ∙ same ∙ ap (λ (e : ℕ). page_at (page_of e)) (sym f.is))
+
   unique : (b entry other : ℕ) (name : List ℕ) → Contains (entries_in b files) entry → Contains (entries_in b files) other → IsNamed words entry name → IsNamed words other name → entry ≡ other
   unique b entry other name one two named also =
       let f = file_of_entry files b entry one in
@@ -127,5 +155,7 @@ built_denotes words roles files built = record {
   found = found words roles files built;
   flat = flat_tree files;
   once = λ b c entry other lb lc one two same. once words roles files built b c entry other one two same;
+  apart = λ b entry lt has. apart words roles files built b entry has;
+  unshared = λ b c entry other lb lc one two. unshared words roles files built b c entry other one two;
   unique = λ b entry other name lt one two named also. unique words roles files built b entry other name one two named also;
 }

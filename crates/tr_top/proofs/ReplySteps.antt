@@ -88,7 +88,7 @@ changes tree (Stat path) create none = absurd create
 pub change_is_due : (coffer : Coffer) (command : Command) (head : ℕ) (words : List Word) (tree : List Member) → Links coffer command head words tree → IsCommand command → IsChange tree command
 change_is_due coffer command head words tree k valid = changes tree command k.create (subst (λ t. node_of t command ≡ None) (sym k.ground.tree_is) (missing_node command k.ground.files (create_names command valid k.create) k.missing))
 
-few_pages : (spot : Spot) → spot_pages spot ≤ 2
+pub few_pages : (spot : Spot) → spot_pages spot ≤ 2
 few_pages (Free entry nxt) = omega arith
 few_pages (Fresh first) = omega arith
 

@@ -13,8 +13,9 @@ use Rattle.tr_types.specs.Machine.{Answers}
 use Rattle.tr_types.specs.NewImage.{new_image}
 use Rattle.tr_types.specs.Traces.{answer_in, last_answer}
 use Rattle.tr_types.specs.Tree.{new_tree}
-use Rattle.tr_types.specs.World.{World, Phase, Idle, Runs, MayBegin, put, stepped}
+use Rattle.tr_types.specs.World.{World, Phase, Idle, Runs, MayBegin, SparesKernel, put, stepped}
 use Rattle.tr_types.specs.declared.action.Action.{Action}
+use Rattle.tr_types.specs.declared.action.Action.TheVariants.{Load, Store, Cas, Flush, Fence, Pkru, Kernel}
 use Rattle.tr_types.specs.declared.action.Answer.{Answer}
 use Rattle.tr_types.specs.declared.action.Answer.TheVariants.{Done}
 use Rattle.tr_types.specs.declared.command.Command.{Command}
@@ -28,6 +29,7 @@ use Rattle.tr_top.specs.declared.call.Coffer.{Coffer}
 use Rattle.tr_top.specs.declared.call.Stage.TheVariants as stage
 use Rattle.tr_top.specs.declared.runner.Stop.{Stop}
 use Rattle.tr_top.specs.declared.script.Line.{Line}
+use Rattle.tr_top.specs.Calls.{IsCallAction}
 use Rattle.tr_top.specs.Grammar.{IsCommand}
 use Rattle.tr_top.specs.Knows.{Ground, StageKnows, StepsFrom, ActGives, ReplyGives}
 use Rattle.tr_top.specs.Run.{IsRight, world_after, pages_made}
@@ -116,6 +118,16 @@ call_begins lines coffer old new thread command call quiet added valid same told
       others = λ t other. ap (λ (w : World). w.phases t) next ∙ put_other before.phases thread (Runs command false None) t other ∙ quiet.idle t;
     }
 
+-- an action of a call in the root coffer spares the kernel's pages
+pub spares_kernel : (words : List Word) (control : ℕ) (action : Action) → control ≡ page_at (root_control (pages_of words)) → IsCallAction control action → SparesKernel words action
+spares_kernel words control (Load addr) is may = tt
+spares_kernel words control (Store addr word) is may = subst (λ n. n ≤ addr) is may
+spares_kernel words control (Kernel call) is may = tt
+spares_kernel words control (Cas addr old new) is may = tt
+spares_kernel words control (Flush addr) is may = tt
+spares_kernel words control Fence is may = tt
+spares_kernel words control (Pkru register) is may = tt
+
 -- A call's action: however the machine answers it, it is right, and the call is at its next stage.
 module _ (lines : List Line) (trace : List Entry) (thread : ℕ) (old new : CallRun) (mark : Mark) (action : Action) (told : Answer) (words : List Word)
     (k : IsAtStage lines trace thread old) (heard : told ≡ answer_after trace) (steps : StepsFrom old told new (step.Act mark action)) (tied : words ≡ (world_after lines trace).machine.words) where
@@ -125,10 +137,10 @@ module _ (lines : List Line) (trace : List Entry) (thread : ℕ) (old new : Call
   gives : ActGives new.coffer new.command.now new.stage mark action w.machine.words w.tree (w.phases thread)
   gives = steps k.valid w.machine.words w.tree (w.phases thread) (subst (λ a. StageKnows old.coffer old.command.now old.stage a w.machine.words w.tree (w.phases thread)) (sym heard) k.knows)
 
-  pub act_right : (answer : Answer) → Answers words action answer → IsRight w (entry.Act thread 0 mark action answer)
-  act_right answer is =
+  pub act_right : SparesKernel w.machine.words action → (answer : Answer) → Answers words action answer → IsRight w (entry.Act thread 0 mark action answer)
+  act_right spares answer is =
       let goes = gives answer (subst (λ (l : List Word). Answers l action answer) tied is) in
-      record { legal = λ _. goes.legal; denotes = λ _. goes.denotes }
+      record { legal = λ _. (goes.legal, spares); denotes = λ _. goes.denotes }
 
   pub act_turns : (then : List Entry) (answer : Answer) → Answers words action answer → then ≡ trace ++ entry.Act thread 0 mark action answer ∷ [] → new.command.now ≡ old.command.now → IsAtStage lines then thread new
   act_turns then answer is added same =

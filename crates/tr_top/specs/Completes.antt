@@ -3,8 +3,10 @@ use Rattle.std.specs.Prelude.{◌≡◌, ◌-◌, ◌<◌, ◌≤◌, ◌^◌, L
 use Rattle.tr_types.specs.declared.entry.Entry.{Entry}
 use Rattle.tr_top.specs.declared.status.Status.{Status}
 use Rattle.tr_top.specs.declared.status.Status.TheVariants.{Done, Full, NoMemory}
-use Rattle.tr_top.specs.Run.{trace_limit}
-use Rattle.tr_top.specs.Top.{Outside}
+use Rattle.tr_top.specs.declared.script.Line.{Line}
+use Rattle.tr_top.specs.Along.{IsAtEnd}
+use Rattle.tr_top.specs.Run.{trace_limit, place_after}
+use Rattle.tr_top.specs.Top.{Outside, ReadsScript}
 
 -- no fault was counted: each count is what it was, and wasn't at the counter's last value
 pub record NoFault (before after : Outside) : Type 0 where
@@ -12,9 +14,10 @@ pub record NoFault (before after : Outside) : Type 0 where
   pub out : (after.sinks.out_faults ≡ before.sinks.out_faults) × (before.sinks.out_faults < 2 ^ 64 - 1)
   pub saved : (after.sinks.saved_faults ≡ before.sinks.saved_faults) × (before.sinks.saved_faults < 2 ^ 64 - 1)
 
--- the script was run to its end, or memory ran out, or the trace is full and more is due
-abbrev pub EndsWell : Status → List Entry → Type 0
-EndsWell Done trace = Unit {0}
-EndsWell NoMemory trace = Unit {0}
-EndsWell Full trace = trace_limit ≤ length trace
-EndsWell status trace = ⊥
+-- the script was run to its end, or memory ran out, or the trace is full and a further entry of the script is due
+abbrev pub EndsWell : Outside → Outside → Status → List Entry → Type 0
+EndsWell before after Done trace = Unit {0}
+EndsWell before after NoMemory trace = Unit {0}
+EndsWell before after Full trace =
+    (lines : List Line) × ReadsScript before.script_left after.script_left lines × (trace_limit ≤ length trace) × (IsAtEnd (place_after lines trace) → ⊥)
+EndsWell before after status trace = ⊥

@@ -6,7 +6,7 @@ use Rattle.tr_types.specs.Tree.{Member, new_tree, reply_to, tree_after, IsChange
 use Rattle.tr_types.specs.declared.action.Answer.{Answer}
 use Rattle.tr_types.specs.declared.action.Answer.TheVariants.{Word as WordIs, Done, Kern}
 use Rattle.tr_types.specs.declared.action.Action.{Action}
-use Rattle.tr_types.specs.declared.action.Action.TheVariants.{Load, Kernel}
+use Rattle.tr_types.specs.declared.action.Action.TheVariants.{Load, Store, Kernel}
 use Rattle.pm_words.specs.Word.{Word}
 use Rattle.tr_types.specs.Layout.{page_at, root_control, pool_head}
 use Rattle.tr_types.specs.KernelView.{pages_of}
@@ -17,6 +17,7 @@ use Rattle.tr_types.specs.declared.entry.Entry.{Entry}
 use Rattle.tr_types.specs.declared.entry.Entry.TheVariants as entry
 use Rattle.tr_types.specs.declared.entry.Mark.{Mark}
 use Rattle.tr_types.specs.declared.entry.Mark.TheVariants.{Commit}
+use Rattle.tr_types.specs.declared.kernel_call.Kcall.TheVariants.{Enlarge}
 use Rattle.tr_types.specs.declared.kernel_call.KernAnswer.TheVariants.{NoPages}
 
 -- pages asked for and pages free, at a refused Enlarge
@@ -106,17 +107,24 @@ abbrev pub MayCommit : List Member → Phase → Answer → Type 0
 MayCommit tree (Runs command drained None) Done = IsChange tree command
 MayCommit tree phase answer = ⊥
 
--- Any other action is of a call that runs. It asks for pages only after its pool showed none, and for a change that
--- would succeed.
+-- Any other action is of a call that runs. It asks for pages, at most two at once, only after its pool showed none, and
+-- only in a change that would succeed; and for none after its commit.
 abbrev pub MayAct : List Member → Phase → Action → Type 0
 MayAct tree Idle action = ⊥
-MayAct tree (Runs command drained refused) (Kernel call) = (drained ≡ true) × (refused ≡ None) × IsChange tree command
+MayAct tree (Runs command drained refused) (Kernel (Enlarge id count)) = (drained ≡ true) × (refused ≡ None) × (count ≤ 2) × IsChange tree command
+MayAct tree (Runs command drained refused) (Kernel call) = ⊥
 MayAct tree (Runs command drained refused) action = Unit {0}
+MayAct tree (Committed reply) (Kernel call) = ⊥
 MayAct tree (Committed reply) action = Unit {0}
 
 abbrev pub IsLegalAct : List Member → Phase → Mark → Action → Answer → Type 0
 IsLegalAct tree phase Commit action answer = MayCommit tree phase answer
 IsLegalAct tree phase mark action answer = MayAct tree phase action
+
+-- no call stores in the kernel's pages, which lie below the root coffer's control page
+abbrev pub SparesKernel : List Word → Action → Type 0
+SparesKernel words (Store addr word) = page_at (root_control (pages_of words)) ≤ addr
+SparesKernel words action = Unit {0}
 
 -- What a call without a commit may reply: where it was refused pages, that there is no space for them, which it asked
 -- for in a change that would succeed; else what the tree answers, where that changes nothing.
@@ -136,6 +144,6 @@ MayBegin phase = ⊥
 -- the entry is legal in this world
 abbrev pub IsLegal : World → Entry → Type 0
 IsLegal w (entry.Call thread command) = MayBegin (w.phases thread)
-IsLegal w (entry.Act thread now mark action answer) = IsLegalAct w.tree (w.phases thread) mark action answer
+IsLegal w (entry.Act thread now mark action answer) = IsLegalAct w.tree (w.phases thread) mark action answer × SparesKernel w.machine.words action
 IsLegal w (entry.Reply thread reply) = MayReply w.tree (w.phases thread) reply
 IsLegal w e = Unit {0}

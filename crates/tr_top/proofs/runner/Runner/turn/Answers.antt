@@ -1,11 +1,15 @@
-use Rattle.std.proofs.Common.{◌≡◌, refl, ◌∙◌, subst}
+use Rattle.std.proofs.Common.{◌≡◌, refl, sym, ap, ◌∙◌, subst}
 use Rattle.std.proofs.lemmas.Result.{err_from_is_err_and}
 use Rattle.tr_types.specs.declared.entry.Entry.TheVariants.{Reply}
 use Rattle.tr_top.specs.Run.{place_after}
+use Rattle.tr_types.specs.KernelView.{pages_of}
+use Rattle.tr_types.specs.Layout.{page_at, root_control}
+use Rattle.tr_top.specs.declared.call.Coffer.{Coffer}
+use Rattle.tr_top.specs.Calls.{IsCallAction, IsStepOf}
 use Rattle.tr_top.specs.Running.{answer_after}
 use Rattle.tr_top.specs.Knows.{StepsFrom}
 use Rattle.tr_top.specs.declared.call.CallStep.TheVariants as step
-use Rattle.tr_top.proofs.RightSteps.{heard_is, act_right, act_turns, reply_right, reply_turns}
+use Rattle.tr_top.proofs.RightSteps.{spares_kernel, heard_is, act_right, act_turns, reply_right, reply_turns}
 use Rattle.tr_top.proofs.RunLemmas.{run_more, goes_ok, goes_err, tied_more, reply_follows}
 use Rattle.tr_top.proofs.runner.Runner.turn.Goals as goal
 
@@ -45,7 +49,11 @@ act-requires-clause-right g c =
     let k = c.requires in
     let heard : c.unwrap_or-answer.result.now ≡ answer_after c.args.self.now.log.trace = heard_is c.args.self.now.log.trace _ _ _ c.last_answer.ensures c.unwrap_or-answer.ensures refl in
     let steps : StepsFrom c.args.call.now c.unwrap_or-answer.result.now c.next.new.self (step.Act c.in-Act.mark c.in-Act.action) = subst (StepsFrom c.args.call.now c.unwrap_or-answer.result.now c.next.new.self) c.in-Act.is c.in_ok-mark.ensures.gives in
+    let step_of : IsStepOf c.args.call.now.coffer c.args.call.now.command.now (step.Act c.in-Act.mark c.in-Act.action) = subst (IsStepOf c.args.call.now.coffer c.args.call.now.command.now) c.in-Act.is c.in_ok-mark.ensures.step in
+    let may : IsCallAction c.args.self.now.coffer.control.at c.in-Act.action = subst (λ (f : Coffer). IsCallAction f.control.at c.in-Act.action) k.runs.same_coffer step_of.0 in
+    let control = k.tied.control ∙ ap (λ n. page_at (root_control n)) (sym k.tied.size ∙ ap pages_of k.tied.memory) in
     act_right _ _ c.args.thread c.args.call.now c.next.new.self c.in-Act.mark c.in-Act.action _ c.args.self.now.machine k.knows heard steps k.tied.memory
+    (spares_kernel _ c.args.self.now.coffer.control.at c.in-Act.action control may)
 
 pub returns-in_ok-act-in-Act-clause-turned : goal.returns-in_ok-act-in-Act-clause-turned
 returns-in_ok-act-in-Act-clause-turned g c =
