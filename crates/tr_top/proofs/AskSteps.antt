@@ -27,7 +27,7 @@ use Rattle.tr_top.proofs.ReplySteps.{change_is_due, few_pages}
 use Rattle.tr_top.proofs.EnlargeLaws.{laid_enlarge}
 use Rattle.tr_top.proofs.GivenLaws.{distinct_two}
 use Rattle.tr_top.proofs.LoadSteps.{ground_denotes}
-use Rattle.tr_top.proofs.TreeLaws.{contains_here, contains_there}
+use Rattle.tr_top.proofs.Members.{contains_here, contains_there}
 
 -- the word before a chain says where it begins
 abbrev first_of : List ℕ → ℕ

@@ -8,7 +8,8 @@ use Rattle.tr_types.specs.Layout.{page_at, owner_word, root_control, root_page, 
 use Rattle.tr_types.specs.KernelView.{pages_of, owner_of}
 use Rattle.tr_types.specs.Denotes.{value, control_of, dir_of, IsCofferPage, Chain}
 use Rattle.tr_top.specs.Laid.{Role, Spare, Control, Root, Entries, FilePage, FileAt, IsPlaceOf, HasFile, entries_in, IsBuilt, AreFree, IsLaid, stored_all}
-use Rattle.tr_top.proofs.KeepLaws.{contains_head, contains_tail, contains_cases, entries_are_files, entry_held, place_held, value_stored, value_other, Held, IsApart, IsAside, held_stored, pages_held, place_is, chain_held, file_held, aside_no_head}
+use Rattle.tr_top.proofs.KeepLaws.{entries_are_files, entry_held, place_held, value_stored, value_other, Held, IsApart, IsAside, held_stored, pages_held, place_is, chain_held, file_held, aside_no_head}
+use Rattle.tr_top.proofs.Members.{contains_here, contains_there, contains_cases}
 use Rattle.tr_top.proofs.PlanLemmas.{length_stored_all}
 use Rattle.tr_top.proofs.PairLaws.{AllAt, aside_all, value_through}
 
@@ -110,7 +111,7 @@ built_more words roles files f head is b new leads others = record {
     low = omega arith
 
     each : (g : FileAt) → Contains (f ∷ files) g → HasFile words roles g
-    each g has = elim (contains_cases f g files has) [
+    each g has = elim (contains_cases f files g has) [
       | inl at_head ↦ subst (λ (x : FileAt). HasFile words roles x) at_head new
       | inr among ↦ b.each g among
     ]
@@ -133,7 +134,7 @@ built_more words roles files f head is b new leads others = record {
         first_word : (i e : ℕ) → Contains (entries_in i files) e → value after e ≡ value words e
         first_word i e has =
             let found = entries_are_files i files e has in
-            subst (λ (x : ℕ). value after x ≡ value words x) found.2 (entry_held words after (f ∷ files) found.0 held (contains_tail f found.0 files found.1))
+            subst (λ (x : ℕ). value after x ≡ value words x) found.2 (entry_held words after (f ∷ files) found.0 held (contains_there f files found.0 found.1))
 
     bucket : (i : ℕ) → i < 256 → (bucket_of f.name ≡ i) ⊎ (bucket_of f.name ≡ i → ⊥) → Chain after (value after (bucket_head (dir_of words) i)) (entries_in i (f ∷ files))
     bucket i lt (inl here) =
@@ -142,7 +143,7 @@ built_more words roles files f head is b new leads others = record {
         let address : IsAddress (length words) head = subst (λ (a : ℕ). IsAddress (length words) a) (sym is) (head_address words (bucket_of f.name) b.size low) in (
           ap (λ (a : ℕ). value after a) at ∙ value_stored head f.entry words address,
           place_held words after (f ∷ files) f.entry held (place_is words roles f.entry new.place),
-          old i (value after f.entry) lt (entry_held words after (f ∷ files) f held (contains_head f files) ∙ leads ∙ ap (λ (a : ℕ). value words a) (sym at)),
+          old i (value after f.entry) lt (entry_held words after (f ∷ files) f held (contains_here f files) ∙ leads ∙ ap (λ (a : ℕ). value words a) (sym at)),
         ))
     bucket i lt (inr other) =
         subst (λ (t : Bool). Chain after (value after (bucket_head (dir_of words) i)) (if t then f.entry ∷ entries_in i files else entries_in i files)) (sym (ne_eqb (bucket_of f.name) i other))

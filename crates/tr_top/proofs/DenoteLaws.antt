@@ -6,7 +6,8 @@ use Rattle.tr_types.specs.Layout.{page_at, bucket_of, entry_target}
 use Rattle.tr_types.specs.Tree.{Node, node_at}
 use Rattle.tr_types.specs.Denotes.{value, page_of, IsNamed, IsShown, IsApart, Denotes}
 use Rattle.tr_top.specs.Laid.{Role, Entries, FilePage, FileAt, AreDistinct, IsBuilt, entries_in, tree_of}
-use Rattle.tr_top.proofs.TreeLaws.{contains_here, contains_there, contains_cases, contains_none, node_of_file, file_of_node, node_of_root, flat_tree}
+use Rattle.tr_top.proofs.TreeLaws.{node_of_file, file_of_node, node_of_root, flat_tree}
+use Rattle.tr_top.proofs.Members.{contains_here, contains_there, contains_cases, contains_none}
 
 -- Entries of a bucket.
 

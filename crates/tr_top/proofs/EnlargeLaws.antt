@@ -8,7 +8,7 @@ use Rattle.tr_types.specs.Denotes.{value, IsCofferPage, IsPlace, Chain, IsNamed}
 use Rattle.tr_top.specs.Laid.{Role, FileAt, IsPlaceOf, HasFile, entries_in, IsBuilt, AreFree, IsLaid, IsFresh}
 use Rattle.tr_top.proofs.DenoteLaws.{file_of_entry}
 use Rattle.tr_top.proofs.GivenLaws.{IsGiven, free_is, given_free, pages_same}
-use Rattle.tr_top.proofs.TreeLaws.{contains_here, contains_there, contains_cases, contains_none}
+use Rattle.tr_top.proofs.Members.{contains_here, contains_there, contains_cases, contains_none}
 
 -- the address of a word past the kernel's pages
 abbrev pub IsPast : List Word → ℕ → Type 0

@@ -7,7 +7,8 @@ use Rattle.tr_types.specs.KernelView.{pages_of, owner_of}
 use Rattle.tr_types.specs.Denotes.{value, dir_of, Chain}
 use Rattle.tr_top.specs.Laid.{Role, Spare, FilePage, FileAt, IsPlaceOf, HasFile, IsBuilt, AreFree, IsLaid, IsFresh, stored_all}
 use Rattle.tr_top.specs.Plans.{entry_pairs, free_entry_pairs}
-use Rattle.tr_top.proofs.KeepLaws.{contains_head, contains_tail, contains_cases, value_other, Held, Kept, IsAside, InSpare, AtEntryPage, AtFreeEntry, InFree, spare_differs, entries_apart, entry_off_page, held_both, pages_held, coffer_held, place_of_held, past_held, chain_held, stored_kept, all_kept, built_kept}
+use Rattle.tr_top.proofs.KeepLaws.{value_other, Held, Kept, IsAside, InSpare, AtEntryPage, AtFreeEntry, InFree, spare_differs, entries_apart, entry_off_page, held_both, pages_held, coffer_held, place_of_held, past_held, chain_held, stored_kept, all_kept, built_kept}
+use Rattle.tr_top.proofs.Members.{contains_here, contains_there, contains_cases}
 use Rattle.tr_top.proofs.PlanLemmas.{AreAside, HasEntry, stored_all_aside, stored_all_last, named_after}
 use Rattle.tr_top.proofs.PairLaws.{AllAt, value_through, all_at-weaker, aside_all, free_pairs_at, entry_pairs_at}
 use Rattle.tr_top.proofs.CommitLaws.{with_role, IsGrown, with_role_here, with_role_other, with_role_grown, place_grown, built_grown, built_more, head_held, IsOurs, ours_root, ours_coffer, ours_place, plan_leaves_rest, laid_after, LeavesRest, IsSafe, safe_store}
@@ -73,7 +74,7 @@ safe_kept words roles files head pairs b all =
 
 free_place : (words : List Word) (roles : ℕ → Role) (files : List FileAt) (frees : List ℕ) (e : ℕ) → AreFree words roles files frees → Contains frees e → IsPlaceOf words roles e
 free_place words roles files [] e free (k, lt, is) = absurd (omega arith)
-free_place words roles files (x ∷ frees) e free has = by (free_place words roles files frees e free.3) (contains_cases x e frees has)
+free_place words roles files (x ∷ frees) e free has = by (free_place words roles files frees e free.3) (contains_cases x frees e has)
   where
     by : (Contains frees e → IsPlaceOf words roles e) → (x ≡ e) ⊎ Contains frees e → IsPlaceOf words roles e
     by rest (inl same) = subst (λ (a : ℕ). IsPlaceOf words roles a) same free.0
@@ -83,13 +84,13 @@ free_more : (words after : List Word) (roles new : ℕ → Role) (files : List F
 free_more words after roles new files f [] held grown free none = tt
 free_more words after roles new files f (e ∷ frees) held grown free none = (
   place_grown after roles new e grown (place_of_held words after files roles e held free.0),
-  (λ g has same. by g (contains_cases f g files has) same),
+  (λ g has same. by g (contains_cases f files g has) same),
   free.2,
-  free_more words after roles new files f frees held grown free.3 (λ among. none (contains_tail e f.entry frees among)),
+  free_more words after roles new files f frees held grown free.3 (λ among. none (contains_there e frees f.entry among)),
 )
   where
     by : (g : FileAt) → (f ≡ g) ⊎ Contains files g → g.entry ≡ e → ⊥
-    by g (inl is) same = none (subst (λ (a : ℕ). Contains (e ∷ frees) a) (sym (ap (λ (x : FileAt). x.entry) is ∙ same)) (contains_head e frees))
+    by g (inl is) same = none (subst (λ (a : ℕ). Contains (e ∷ frees) a) (sym (ap (λ (x : FileAt). x.entry) is ∙ same)) (contains_here e frees))
     by g (inr among) same = free.1 g among same
 
 -- The memory after the commit.

@@ -10,7 +10,8 @@ use Rattle.tr_types.specs.KernelView.{pages_of, owner_of}
 use Rattle.tr_types.specs.Denotes.{value, dir_of, IsCofferPage, Chain}
 use Rattle.tr_top.specs.Laid.{Role, Spare, Entries, FilePage, FileAt, HasFile, IsBuilt, AreFree, IsLaid, IsFresh, stored_all}
 use Rattle.tr_top.specs.Plans.{entry_pairs, link_pairs, fresh_page_pairs}
-use Rattle.tr_top.proofs.KeepLaws.{contains_cases, value_other, Held, Kept, IsAside, spare_differs, held_both, pages_held, coffer_held, past_held, stored_kept, built_kept}
+use Rattle.tr_top.proofs.KeepLaws.{value_other, Held, Kept, IsAside, spare_differs, held_both, pages_held, coffer_held, past_held, stored_kept, built_kept}
+use Rattle.tr_top.proofs.Members.{contains_cases}
 use Rattle.tr_top.proofs.PlanLemmas.{HasEntry, length_stored_all, stored_all-append, stored_all_aside, stored_all_last, named_after}
 use Rattle.tr_top.proofs.PairLaws.{AllAt, value_through, all_at-weaker, all_at-append, all_at-range, entry_pairs_at, pairs_behind_file, behind_file_at, fresh_pairs_at}
 use Rattle.tr_top.proofs.CommitLaws.{with_role, IsGrown, with_role_here, with_role_other, with_role_grown, built_grown, built_more, head_held, IsOurs, plan_leaves_rest, laid_after, LeavesRest, IsSafe}
@@ -75,7 +76,7 @@ places_chain words page (suc n) first c sum links last = (
 -- a place among those from one on is none before it
 places_behind : (page n first : ℕ) (e : ℕ) → Contains (places_from page first n) e → entry_place (page_at page) first ≤ e
 places_behind page zero first e (k, lt, is) = absurd (omega arith)
-places_behind page (suc n) first e has = by (λ among. places_behind page n (first + 1) e among) (contains_cases (entry_place (page_at page) first) e (places_from page (first + 1) n) has)
+places_behind page (suc n) first e has = by (λ among. places_behind page n (first + 1) e among) (contains_cases (entry_place (page_at page) first) (places_from page (first + 1) n) e has)
   where
     by : (Contains (places_from page (first + 1) n) e → entry_place (page_at page) (first + 1) ≤ e) → (entry_place (page_at page) first ≡ e) ⊎ Contains (places_from page (first + 1) n) e → entry_place (page_at page) first ≤ e
     by rest (inl same) = omega arith
@@ -284,7 +285,7 @@ fresh_commit words roles files name head first page file laid fresh other differ
     free : AreFree after new (f ∷ files) (places_from page 1 11)
     free =
         places_free after new (f ∷ files) page 11 1 (coffer_held words after files page held fresh.coffers) (past_held words after files page held fresh.past) page_role (omega arith)
-        (λ g has i low high same. by g i low high same (contains_cases f g files has))
+        (λ g has i low high same. by g i low high same (contains_cases f files g has))
       where
         by : (g : FileAt) (i : ℕ) → 1 ≤ i → i < 12 → g.entry ≡ entry_place (page_at page) i → (f ≡ g) ⊎ Contains files g → ⊥
         by g i low high same (inl is) = let at_first : entry ≡ g.entry = ap (λ (x : FileAt). x.entry) is in omega arith

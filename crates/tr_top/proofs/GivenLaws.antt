@@ -11,7 +11,7 @@ use Rattle.tr_types.specs.Layout.{page_at, kernel_pages, owner_word}
 use Rattle.tr_types.specs.KernelView.{pages_of, owner_of, free_pages, given_to}
 use Rattle.tr_types.specs.Denotes.{value}
 use Rattle.tr_top.proofs.FreePages.{pages_are, size_stored, owner_apart, owner_kept, owner_given}
-use Rattle.tr_top.proofs.TreeLaws.{contains_cases, contains_none}
+use Rattle.tr_top.proofs.Members.{contains_cases, contains_none}
 
 -- Elements of a range that pass a test.
 

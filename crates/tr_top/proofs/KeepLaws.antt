@@ -1,5 +1,5 @@
 -- What a store leaves as it was where it is aside of the words that the tree is read from.
-use Rattle.std.proofs.Common.{◌≡◌, ◌≢◌, ◌⊎◌, inl, inr, ℕ, zero, suc, ◌+◌, ◌/◌, ◌%◌, ◌^◌, ◌<◌, ◌≤◌, Bool, true, false, List, [], ◌∷◌, length, take, Contains, slice_index_or, refl, sym, ap, subst, ◌∙◌, arith, if◌then◌else◌, ◌==◌}
+use Rattle.std.proofs.Common.{◌≡◌, ◌≢◌, ◌⊎◌, inl, inr, ℕ, zero, suc, ◌+◌, ◌/◌, ◌%◌, ◌^◌, ◌<◌, ◌≤◌, Bool, true, false, List, [], ◌∷◌, length, take, Contains, refl, sym, ap, subst, ◌∙◌, arith, if◌then◌else◌, ◌==◌}
 use Rattle.std.specs.List.{AllByRecursion}
 use Rattle.pm_words.specs.Word.{Word, settled}
 use Rattle.pm_words.specs.Memory.{store_at, IsAddress, IsPages}
@@ -8,21 +8,7 @@ use Rattle.tr_types.specs.Layout.{page_at, kernel_pages, owner_word, root_contro
 use Rattle.tr_types.specs.KernelView.{pages_of, owner_of}
 use Rattle.tr_types.specs.Denotes.{value, control_of, dir_of, IsCofferPage, IsPlace, Chain, IsNamed}
 use Rattle.tr_top.specs.Laid.{Role, Spare, Entries, FilePage, FileAt, IsPlaceOf, HasFile, entries_in, IsBuilt, stored_all}
-
--- Members of a list.
-
-pub contains_head : {X : Type 0} (x : X) (xs : List X) → Contains (x ∷ xs) x
-contains_head x xs = (0, omega arith, refl)
-
-pub contains_tail : {X : Type 0} (x y : X) (xs : List X) → Contains xs y → Contains (x ∷ xs) y
-contains_tail x y xs (k, lt, is) = (suc k, omega arith, is)
-
-pub contains_cases : {X : Type 0} (x y : X) (xs : List X) → Contains (x ∷ xs) y → (x ≡ y) ⊎ Contains xs y
-contains_cases {X} x y xs (k, lt, is) = by k lt is
-  where
-    by : (i : ℕ) → i < suc (length xs) → slice_index_or (x ∷ xs) i y ≡ y → (x ≡ y) ⊎ Contains xs y
-    by zero inside found = inl found
-    by (suc i) inside found = inr (i, omega arith, found)
+use Rattle.tr_top.proofs.Members.{contains_here, contains_there, contains_cases}
 
 -- The value at an address after a store.
 
@@ -102,8 +88,8 @@ chain_held words new files at [] h same c = c
 chain_held words new files at (e ∷ es) h same c = (
   c.0,
   place_held words new files e h c.1,
-  subst (λ (v : ℕ). Chain new v es) (sym (same e (contains_head e es)))
-      (chain_held words new files (value words e) es h (λ x has. same x (contains_tail e x es has)) c.2),
+  subst (λ (v : ℕ). Chain new v es) (sym (same e (contains_here e es)))
+      (chain_held words new files (value words e) es h (λ x has. same x (contains_there e es x has)) c.2),
 )
 
 -- the entries of a bucket are entries of files
@@ -112,14 +98,14 @@ entries_are_files b [] e (k, lt, is) = absurd (omega arith)
 entries_are_files b (f ∷ files) e has = by (bucket_of f.name == b) (λ among. entries_are_files b files e among) has
   where
     later : ((g : FileAt) × Contains files g × (g.entry ≡ e)) → (g : FileAt) × Contains (f ∷ files) g × (g.entry ≡ e)
-    later found = (found.0, contains_tail f found.0 files found.1, found.2)
+    later found = (found.0, contains_there f files found.0 found.1, found.2)
 
     first : (Contains (entries_in b files) e → (g : FileAt) × Contains files g × (g.entry ≡ e)) → (f.entry ≡ e) ⊎ Contains (entries_in b files) e → (g : FileAt) × Contains (f ∷ files) g × (g.entry ≡ e)
-    first rest (inl is) = (f, contains_head f files, is)
+    first rest (inl is) = (f, contains_here f files, is)
     first rest (inr among) = later (rest among)
 
     by : (t : Bool) → (Contains (entries_in b files) e → (g : FileAt) × Contains files g × (g.entry ≡ e)) → Contains (if t then f.entry ∷ entries_in b files else entries_in b files) e → (g : FileAt) × Contains (f ∷ files) g × (g.entry ≡ e)
-    by true rest among = first rest (contains_cases f.entry e (entries_in b files) among)
+    by true rest among = first rest (contains_cases f.entry (entries_in b files) e among)
     by false rest among = later (rest among)
 
 pub entry_held : (words new : List Word) (files : List FileAt) (f : FileAt) → Held words files new → Contains files f → value new f.entry ≡ value words f.entry

@@ -22,6 +22,8 @@ mod CallRuns
 mod LineRuns
 -- how a run ends
 mod Endings
+-- what it is to be among a list
+mod Members
 -- the names of a path of one name
 mod NameLaws
 -- what stands in the tree of some files

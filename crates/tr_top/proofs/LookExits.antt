@@ -32,7 +32,7 @@ use Rattle.tr_top.specs.Knows.{AfterKnowing, StageKnows, FindKnows, MissKnows, I
 use Rattle.tr_top.proofs.LoadSteps.{ground_denotes, load_gives}
 use Rattle.tr_top.proofs.ReplySteps.{counted_gives}
 use Rattle.tr_top.proofs.Places.{place_near}
-use Rattle.tr_top.proofs.TreeLaws.{contains_here, contains_there, contains_cases, contains_none}
+use Rattle.tr_top.proofs.Members.{contains_here, contains_there, contains_cases, contains_none}
 
 -- what kind of command it is
 pub is_create : (command : Command) (path : List ℕ) (mode : ℕ) → command ≡ Create path mode → IsCreate command

@@ -1,5 +1,5 @@
 -- What a look-up knows, step by step.
-use Rattle.std.proofs.Common.{◌≡◌, ◌≢◌, ℕ, zero, suc, ◌+◌, ◌*◌, ◌/◌, ◌%◌, ◌^◌, ◌<◌, ◌≤◌, Bool, true, false, cond, ◌==◌, if◌then◌else◌, List, [], ◌∷◌, length, map, filter, take, drop, get_or, Contains, ap, sym, refl, subst, ◌∙◌, ◌⊎◌, inl, inr, arith}
+use Rattle.std.proofs.Common.{◌≡◌, ◌≢◌, ℕ, ◌+◌, ◌*◌, ◌/◌, ◌%◌, ◌^◌, ◌<◌, ◌≤◌, Bool, true, false, cond, ◌==◌, if◌then◌else◌, List, [], ◌∷◌, length, map, filter, take, drop, get_or, Contains, ap, sym, refl, subst, ◌∙◌, ◌⊎◌, inl, inr, arith}
 use Rattle.std.proofs.lemmas.Bool.{eq-eqb, cases_lt}
 use Rattle.std.proofs.lemmas.List.{same_lists, get_or-take, get_or-drop, get_or_default, length-take, length-drop}
 use Rattle.pm_words.specs.Word.{Word}
@@ -10,30 +10,18 @@ use Rattle.tr_top.specs.Laid.{Role, FileAt, IsBuilt, IsPlaceOf, entries_in}
 use Rattle.tr_types.specs.declared.action.Answer.{Answer}
 use Rattle.tr_top.specs.declared.lookup.Asked.{Asked as LookAsked}
 use Rattle.tr_top.specs.Looking.{Walks, Agrees, IsEntryOf, LookKnowsAt}
+use Rattle.tr_top.proofs.Members.{contains_here, contains_there, contains_cases, contains_none}
 use Rattle.tr_top.proofs.EntryPlaces.{entry_word, entry_some}
 
 -- lists and what they contain
-
-pub contains_first : {X : Type 0} (x : X) (xs : List X) → Contains (x ∷ xs) x
-contains_first x xs = (0, omega arith, refl)
-
-pub contains_later : {X : Type 0} (x : X) (xs : List X) (y : X) → Contains xs y → Contains (x ∷ xs) y
-contains_later x xs y (k, low, is) = (suc k, omega arith, is)
-
-pub contains_cases : {X : Type 0} (x : X) (xs : List X) (y : X) → Contains (x ∷ xs) y → (x ≡ y) ⊎ Contains xs y
-contains_cases x xs y (zero, low, is) = inl is
-contains_cases x xs y (suc k, low, is) = inr (k, omega arith, is)
-
-pub contains_none : {X : Type 0} (y : X) → Contains [] y → ⊥
-contains_none y (k, low, is) = omega arith
 
 pub contains_filter : {X : Type 0} (p : X → Bool) (xs : List X) (y : X) → Contains xs y → p y ≡ true → Contains (filter p xs) y
 contains_filter p [] y h t = absurd (contains_none y h)
 contains_filter {X = X} p (x ∷ xs) y h t = by (p x) refl (contains_cases x xs y h) (λ r. contains_filter p xs y r t)
   where
     by : (b : Bool) → p x ≡ b → (x ≡ y) ⊎ Contains xs y → (Contains xs y → Contains (filter p xs) y) → Contains (cond b (x ∷ filter p xs) (filter p xs)) y
-    by true e (inl is) next = subst (λ (z : X). Contains (x ∷ filter p xs) z) is (contains_first x (filter p xs))
-    by true e (inr r) next = contains_later x (filter p xs) y (next r)
+    by true e (inl is) next = subst (λ (z : X). Contains (x ∷ filter p xs) z) is (contains_here x (filter p xs))
+    by true e (inr r) next = contains_there x (filter p xs) y (next r)
     by false e (inl is) next = absurd (let bad : false ≡ true = sym e ∙ ap p is ∙ t in cc)
     by false e (inr r) next = next r
 
@@ -46,8 +34,8 @@ filter_contains p (x ∷ xs) y h = by (p x) h (λ r. filter_contains p xs y r)
       where
         first : (x ≡ y) ⊎ Contains (filter p xs) y → Contains (x ∷ xs) y
         first (inl is) = (0, omega arith, is)
-        first (inr r) = contains_later x xs y (next r)
-    by false g next = contains_later x xs y (next g)
+        first (inr r) = contains_there x xs y (next r)
+    by false g next = contains_there x xs y (next g)
 
 -- the files of a bucket
 abbrev pub files_in : ℕ → List FileAt → List FileAt
@@ -95,13 +83,13 @@ walks_at words name files head entry w some = by w.left w.chain w.stand w.kept
     by [] chain stand kept = absurd (omega (arith, chain))
     by (f ∷ left) chain stand kept = record {
       file = f;
-      stands = stand f (contains_first f left);
+      stands = stand f (contains_here f left);
       is = sym chain.0;
       behind = λ ne. record {
         head_is = w.head_is;
         left = left;
         chain = subst (λ (e : ℕ). Chain words (value words e) (map (λ g. g.entry) left)) (sym chain.0) chain.2;
-        stand = λ g h. stand g (contains_later f left g h);
+        stand = λ g h. stand g (contains_there f left g h);
         kept = λ g h is. other f left g ne is (contains_cases f left g (kept g h is));
       };
     }

@@ -11,7 +11,7 @@ use Rattle.tr_types.specs.KernelView.{pages_of, owner_of}
 use Rattle.tr_types.specs.Denotes.{value}
 use Rattle.tr_top.specs.Laid.{Role, Spare, Control, Root, IsBuilt, IsLaid}
 use Rattle.tr_top.proofs.FreePages.{pages_are, size_opened, free_in_new}
-use Rattle.tr_top.proofs.TreeLaws.{contains_none}
+use Rattle.tr_top.proofs.Members.{contains_none}
 
 -- Words past the kernel's pages.
 

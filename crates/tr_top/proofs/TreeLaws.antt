@@ -1,5 +1,5 @@
 -- What stands in the tree of some files, and what a new file changes.
-use Rattle.std.proofs.Common.{◌≡◌, ◌≢◌, ◌⊎◌, inl, inr, ℕ, zero, suc, ◌+◌, ◌≤◌, Bool, true, false, cond, List, [], ◌∷◌, ◌++◌, length, drop, filter, Contains, Option, Some, None, is_some, refl, sym, ap, ◌∙◌, arith, nat_eq}
+use Rattle.std.proofs.Common.{◌≡◌, ◌≢◌, ◌⊎◌, inl, inr, ℕ, suc, ◌+◌, ◌≤◌, Bool, true, false, cond, List, [], ◌∷◌, ◌++◌, length, drop, filter, Contains, Option, Some, None, is_some, refl, sym, ap, ◌∙◌, arith, nat_eq}
 use Rattle.std.specs.Cmp.Lexicographic.{pointwise, pointwise_decides, bytes_decides}
 use Rattle.std.proofs.lemmas.Bool.{cond-true, cond-false, and_right}
 use Rattle.std.proofs.lemmas.List.{length_push}
@@ -9,22 +9,8 @@ use Rattle.tr_types.specs.declared.command.Command.TheVariants.{Create}
 use Rattle.tr_types.specs.Tree.{Node, Directory, FileOf, Member, same_names, node_at, is_child, tree_after}
 use Rattle.tr_top.specs.Grammar.{IsPathOfOne}
 use Rattle.tr_top.specs.Laid.{FileAt, tree_of}
+use Rattle.tr_top.proofs.Members.{contains_here, contains_there, contains_cases, contains_none}
 use Rattle.tr_top.proofs.NameLaws.{names_of_path}
-
--- Elements of a list.
-
-pub contains_here : {X : Type 0} (x : X) (xs : List X) → Contains (x ∷ xs) x
-contains_here x xs = (0, omega arith, refl)
-
-pub contains_there : {X : Type 0} (x : X) (xs : List X) (y : X) → Contains xs y → Contains (x ∷ xs) y
-contains_there x xs y (k, lt, at) = (suc k, omega arith, at)
-
-pub contains_cases : {X : Type 0} (x : X) (xs : List X) (y : X) → Contains (x ∷ xs) y → (x ≡ y) ⊎ Contains xs y
-contains_cases x xs y (zero, lt, at) = inl at
-contains_cases x xs y (suc k, lt, at) = inr (k, omega arith, at)
-
-pub contains_none : {X : Type 0} (y : X) → Contains [] y → ⊥
-contains_none y (k, lt, at) = omega arith
 
 -- Nodes of a tree that grows at its end.
 
