@@ -13,22 +13,26 @@ const IMAGE: &str = "zofs.img";
 const SAVED: &str = "zofs.new";
 
 fn main(rt: HostRuntime) -> io::Result<ExitCode> {
-    let alloc = rt.alloc();
-    let status = match words(&rt) {
-        Ok(words) => {
-            let mut image = FileSource::at(&rt, String::from_str(alloc, IMAGE)?);
-            let mut script = StdSource::new(&rt);
-            let mut out = StdSink::new(&rt);
-            let mut saved = FileSink::at(&rt, String::from_str(alloc, SAVED)?);
-            zofs_run(alloc, &words, &mut image, &mut script, &mut out, &mut saved).status
-        }
-        Err(_) => Status::Usage,
-    };
+    let status = run(&rt).unwrap_or(Status::NoMemory);
     if status != Status::Done {
         // Where the text can't be written, the exit code still tells the status.
         let _ = eprintln!(rt; "{status}");
     }
     Ok(ExitCode::from(status.exit_code()))
+}
+
+// Runs the program on its files and streams. Fails only where memory runs out before the run begins.
+fn run(rt: &HostRuntime) -> io::Result<Status> {
+    let alloc = rt.alloc();
+    let words = match words(rt) {
+        Err(fault) if fault.kind() != io::ErrorKind::OutOfMemory => return Ok(Status::Usage),
+        words => words?,
+    };
+    let mut image = FileSource::at(rt, String::from_str(alloc, IMAGE)?);
+    let mut script = StdSource::new(rt);
+    let mut out = StdSink::new(rt);
+    let mut saved = FileSink::at(rt, String::from_str(alloc, SAVED)?);
+    Ok(zofs_run(alloc, &words, &mut image, &mut script, &mut out, &mut saved).status)
 }
 
 // The command line's words behind the program's name.
