@@ -6,6 +6,8 @@ pub mod Layout
 pub mod NewImage
 -- what the kernel's pages say
 pub mod KernelView
+-- who may load and store
+pub mod Rights
 -- the machine: what it answers, and what an entry leaves
 pub mod Machine
 -- what the actions of a call are for
