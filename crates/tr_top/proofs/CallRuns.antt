@@ -6,9 +6,9 @@ use Rattle.tr_types.specs.World.{World, stepped}
 use Rattle.tr_types.specs.declared.command.Command.{Command}
 use Rattle.tr_types.specs.declared.entry.Entry.{Entry}
 use Rattle.tr_types.specs.declared.entry.Entry.TheVariants as entry
-use Rattle.tr_top.specs.declared.call.Coffer.{Coffer}
-use Rattle.tr_top.specs.declared.call.CallRun.{CallRun}
-use Rattle.tr_top.specs.declared.script.Line.{Line}
+use Rattle.zo_ops.specs.declared.call.Coffer.{Coffer}
+use Rattle.zo_ops.specs.declared.call.CallRun.{CallRun}
+use Rattle.tr_script.specs.declared.script.Line.{Line}
 use Rattle.tr_top.specs.Along.{Place, Running, rest, followed}
 use Rattle.tr_top.specs.Run.{world_after, place_after}
 use Rattle.tr_top.proofs.RunLemmas.{world_more, place_more}

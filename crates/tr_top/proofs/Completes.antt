@@ -4,10 +4,10 @@ use Rattle.std.proofs.lemmas.List.{length-append}
 use Rattle.tr_types.specs.declared.entry.Entry.{Entry}
 use Rattle.tr_outside.specs.Causes.{Rose}
 use Rattle.tr_outside.specs.Whole.{ReadsUpTo}
-use Rattle.tr_top.specs.declared.script.Line.{Line}
-use Rattle.tr_top.specs.declared.status.Status.{Status}
-use Rattle.tr_top.specs.declared.status.Status.TheVariants.{Done, Usage, BadScript, ReadFault, WriteFault, NoMemory, Full}
-use Rattle.tr_top.specs.Grammar.{IsScript, text_limit}
+use Rattle.tr_script.specs.declared.script.Line.{Line}
+use Rattle.tr_script.specs.declared.status.Status.{Status}
+use Rattle.tr_script.specs.declared.status.Status.TheVariants.{Done, Usage, BadScript, ReadFault, WriteFault, NoMemory, Full}
+use Rattle.tr_script.specs.Grammar.{IsScript, text_limit}
 use Rattle.tr_top.specs.Top.{Outside, IsForm, IsAnswered, ReadsNoScript, RunEnds}
 use Rattle.tr_top.specs.Completes.{NoFault, EndsWell}
 

@@ -10,14 +10,14 @@ use Rattle.pm_words.specs.Memory.{present_values}
 use Rattle.tr_types.specs.declared.entry.Entry.{Entry}
 use Rattle.tr_outside.specs.ImageBytes.{image_bytes}
 use Rattle.tr_outside.specs.Whole.{AppendsFront}
-use Rattle.tr_top.specs.declared.call.Coffer.{Coffer}
+use Rattle.zo_ops.specs.declared.call.Coffer.{Coffer}
 use Rattle.tr_top.specs.declared.runner.Stop.{Stop}
 use Rattle.tr_top.specs.declared.runner.Stop.TheVariants as stop
-use Rattle.tr_top.specs.declared.script.Line.{Line}
-use Rattle.tr_top.specs.declared.status.Status.{Status}
-use Rattle.tr_top.specs.declared.status.Status.TheVariants.{Done, Usage, BadScript, ReadFault, WriteFault, NoMemory, Full}
+use Rattle.tr_script.specs.declared.script.Line.{Line}
+use Rattle.tr_script.specs.declared.status.Status.{Status}
+use Rattle.tr_script.specs.declared.status.Status.TheVariants.{Done, Usage, BadScript, ReadFault, WriteFault, NoMemory, Full}
 use Rattle.tr_top.specs.Along.{IsAtEnd}
-use Rattle.tr_top.specs.Text.{brief_texts}
+use Rattle.tr_script.specs.Text.{brief_texts}
 use Rattle.tr_top.specs.Run.{place_after}
 use Rattle.tr_top.specs.Running.{IsTied, Goes}
 use Rattle.tr_top.specs.Top.{Sinks, RunEnds}

@@ -5,10 +5,10 @@ use Rattle.pm_words.specs.Word.{Word}
 use Rattle.tr_types.specs.Fold.{Each, state_after}
 use Rattle.tr_types.proofs.FoldLemmas.{state_after_more}
 use Rattle.tr_types.specs.declared.entry.Entry.{Entry}
-use Rattle.tr_top.specs.declared.call.Coffer.{Coffer}
-use Rattle.tr_top.specs.declared.script.Line.{Line}
-use Rattle.tr_top.specs.declared.script.Line.TheVariants.{Mkfs, Process, Thread, Do}
-use Rattle.tr_top.specs.Grammar.{Declared, declared, nothing_declared, MayStand}
+use Rattle.zo_ops.specs.declared.call.Coffer.{Coffer}
+use Rattle.tr_script.specs.declared.script.Line.{Line}
+use Rattle.tr_script.specs.declared.script.Line.TheVariants.{Mkfs, Process, Thread, Do}
+use Rattle.tr_script.specs.Grammar.{Declared, declared, nothing_declared, MayStand}
 use Rattle.tr_top.specs.Along.{rest}
 use Rattle.tr_top.specs.Run.{world_after, place_after, pages_made}
 use Rattle.tr_top.specs.Running.{IsTied, IsQuiet, Goes, IsLike, IsNextLine, Passes}

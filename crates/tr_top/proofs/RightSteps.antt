@@ -8,7 +8,7 @@ use Rattle.std.proofs.lemmas.Option.{slice_get-get_or}
 use Rattle.pm_words.specs.Word.{Word}
 use Rattle.pm_words.specs.Memory.{all_durable}
 use Rattle.tr_types.specs.KernelView.{pages_of}
-use Rattle.tr_types.specs.Layout.{page_at, root_control, root_page}
+use Rattle.zo_layout.specs.Layout.{page_at, root_control, root_page}
 use Rattle.tr_types.specs.Machine.{Answers}
 use Rattle.tr_types.specs.NewImage.{new_image}
 use Rattle.tr_types.specs.Traces.{answer_in, last_answer}
@@ -23,20 +23,20 @@ use Rattle.tr_types.specs.declared.command.Reply.{Reply}
 use Rattle.tr_types.specs.declared.entry.Entry.{Entry}
 use Rattle.tr_types.specs.declared.entry.Entry.TheVariants as entry
 use Rattle.tr_types.specs.declared.entry.Mark.{Mark}
-use Rattle.tr_top.specs.declared.call.CallRun.{CallRun}
-use Rattle.tr_top.specs.declared.call.CallStep.TheVariants as step
-use Rattle.tr_top.specs.declared.call.Coffer.{Coffer}
-use Rattle.tr_top.specs.declared.call.Stage.TheVariants as stage
+use Rattle.zo_ops.specs.declared.call.CallRun.{CallRun}
+use Rattle.zo_ops.specs.declared.call.CallStep.TheVariants as step
+use Rattle.zo_ops.specs.declared.call.Coffer.{Coffer}
+use Rattle.zo_ops.specs.declared.call.Stage.TheVariants as stage
 use Rattle.tr_top.specs.declared.runner.Stop.{Stop}
-use Rattle.tr_top.specs.declared.script.Line.{Line}
-use Rattle.tr_top.specs.Calls.{IsCallAction}
-use Rattle.tr_top.specs.Grammar.{IsCommand}
-use Rattle.tr_top.specs.Knows.{Ground, StageKnows, StepsFrom, ActGives, ReplyGives}
+use Rattle.tr_script.specs.declared.script.Line.{Line}
+use Rattle.zo_ops.specs.Calls.{IsCallAction}
+use Rattle.tr_types.specs.Commands.{IsCommand}
+use Rattle.zo_ops.specs.Knows.{Ground, StageKnows, StepsFrom, ActGives, ReplyGives}
 use Rattle.tr_top.specs.Run.{IsRight, world_after, pages_made}
 use Rattle.tr_top.specs.Running.{IsQuiet, IsAtStage, answer_after}
-use Rattle.tr_top.proofs.FreePages.{pages_are, size_opened}
-use Rattle.tr_top.proofs.LoadSteps.{ground_denotes}
-use Rattle.tr_top.proofs.NewLaws.{laid_new, roles_in_new}
+use Rattle.tr_types.proofs.FreePages.{pages_are, size_opened}
+use Rattle.zo_ops.proofs.LoadSteps.{ground_denotes}
+use Rattle.zo_ops.proofs.NewLaws.{laid_new, roles_in_new}
 use Rattle.tr_top.proofs.RunLemmas.{world_more, length_more}
 
 -- The phases with another one for a thread.

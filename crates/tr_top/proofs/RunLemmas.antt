@@ -7,7 +7,7 @@ use Rattle.pm_words.specs.Word.{Word}
 use Rattle.pm_words.specs.Memory.{all_durable, present_values}
 use Rattle.pm_words.proofs.WordLemmas.{length_all_durable, present_all_durable}
 use Rattle.tr_types.specs.Fold.{state_after}
-use Rattle.tr_types.specs.Layout.{page_at, root_control, root_page}
+use Rattle.zo_layout.specs.Layout.{page_at, root_control, root_page}
 use Rattle.tr_types.specs.NewImage.{new_image, new_word}
 use Rattle.tr_types.specs.Machine.{Answers, IsThread}
 use Rattle.tr_types.specs.World.{World, stepped, MayCome, world_of}
@@ -19,15 +19,15 @@ use Rattle.tr_types.specs.declared.entry.Mark.{Mark}
 use Rattle.tr_types.specs.declared.command.Reply.{Reply}
 use Rattle.tr_types.proofs.FoldLemmas.{state_after_more, Each_more}
 use Rattle.tr_outside.specs.Whole.{AppendsFront}
-use Rattle.tr_top.specs.declared.call.Coffer.{Coffer}
-use Rattle.tr_top.specs.declared.call.CallRun.{CallRun}
+use Rattle.zo_ops.specs.declared.call.Coffer.{Coffer}
+use Rattle.zo_ops.specs.declared.call.CallRun.{CallRun}
 use Rattle.tr_top.specs.declared.runner.Stop.{Stop}
 use Rattle.tr_top.specs.declared.runner.Stop.TheVariants.{Full, NoMemory, OutFailed}
-use Rattle.tr_top.specs.declared.script.Line.{Line}
-use Rattle.tr_top.specs.declared.script.Line.TheVariants.{Mkfs}
-use Rattle.tr_top.specs.Grammar.{declared, nothing_declared, MayStand}
+use Rattle.tr_script.specs.declared.script.Line.{Line}
+use Rattle.tr_script.specs.declared.script.Line.TheVariants.{Mkfs}
+use Rattle.tr_script.specs.Grammar.{declared, nothing_declared, MayStand}
 use Rattle.tr_top.specs.Along.{Place, Running, MayFollow, IsNext, IsAtEnd, followed, start_of}
-use Rattle.tr_top.specs.Text.{brief_text, brief_texts}
+use Rattle.tr_script.specs.Text.{brief_text, brief_texts}
 use Rattle.tr_top.specs.Run.{IsRun, IsRight, pages_made, world_after, place_after, opening}
 use Rattle.tr_top.specs.Running.{Added, Goes, IsTied, IsFullAt, IsStill, IsActionAt, IsCallOf, IsNextLine}
 

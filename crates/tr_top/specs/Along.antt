@@ -2,13 +2,13 @@
 -- and a command gives its call, the call's actions with their marks, and the reply.
 use Rattle.std.specs.Prelude.{◌≡◌, ℕ, List, [], ◌∷◌, Option, Some, None}
 use Rattle.tr_types.specs.Fold.{Each, state_after}
-use Rattle.tr_types.specs.Layout.{page_at, root_page}
+use Rattle.zo_layout.specs.Layout.{page_at, root_page}
 use Rattle.tr_types.specs.Marks.{mark_of}
 use Rattle.tr_types.specs.declared.command.Command.{Command}
 use Rattle.tr_types.specs.declared.entry.Entry.{Entry}
 use Rattle.tr_types.specs.declared.entry.Entry.TheVariants as entry
-use Rattle.tr_top.specs.declared.script.Line.{Line}
-use Rattle.tr_top.specs.declared.script.Line.TheVariants.{Mkfs, Process, Thread, Do}
+use Rattle.tr_script.specs.declared.script.Line.{Line}
+use Rattle.tr_script.specs.declared.script.Line.TheVariants.{Mkfs, Process, Thread, Do}
 
 -- the call that runs
 pub record Running : Type 0 where

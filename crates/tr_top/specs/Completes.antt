@@ -1,9 +1,9 @@
 -- When a call must come to its end.
 use Rattle.std.specs.Prelude.{◌≡◌, ◌-◌, ◌<◌, ◌≤◌, ◌^◌, List, length}
 use Rattle.tr_types.specs.declared.entry.Entry.{Entry}
-use Rattle.tr_top.specs.declared.status.Status.{Status}
-use Rattle.tr_top.specs.declared.status.Status.TheVariants.{Done, Full, NoMemory}
-use Rattle.tr_top.specs.declared.script.Line.{Line}
+use Rattle.tr_script.specs.declared.status.Status.{Status}
+use Rattle.tr_script.specs.declared.status.Status.TheVariants.{Done, Full, NoMemory}
+use Rattle.tr_script.specs.declared.script.Line.{Line}
 use Rattle.tr_top.specs.Along.{IsAtEnd}
 use Rattle.tr_top.specs.Run.{trace_limit, place_after}
 use Rattle.tr_top.specs.Top.{Outside, ReadsScript}

@@ -5,8 +5,8 @@ use Rattle.tr_outside.specs.Causes.{Rose}
 use Rattle.tr_outside.specs.Whole.{AppendsFront}
 use Rattle.tr_top.specs.declared.runner.Stop.{Stop}
 use Rattle.tr_top.specs.declared.runner.Stop.TheVariants as stop
-use Rattle.tr_top.specs.declared.status.Status.{Status}
-use Rattle.tr_top.specs.declared.status.Status.TheVariants.{Done, BadScript, ReadFault, WriteFault, NoMemory, Full}
+use Rattle.tr_script.specs.declared.status.Status.{Status}
+use Rattle.tr_script.specs.declared.status.Status.TheVariants.{Done, BadScript, ReadFault, WriteFault, NoMemory, Full}
 use Rattle.tr_top.specs.Top.{ReadsNoScript}
 
 abbrev pub stop_status : Stop → Status

@@ -7,8 +7,8 @@ use Rattle.tr_types.specs.NewImage.{new_image}
 use Rattle.tr_types.specs.Denotes.{Denotes}
 use Rattle.tr_types.specs.World.{World, world_of, stepped, MayCome, IsLegal}
 use Rattle.tr_types.specs.declared.entry.Entry.{Entry}
-use Rattle.tr_top.specs.declared.script.Line.{Line}
-use Rattle.tr_top.specs.declared.script.Line.TheVariants.{Mkfs}
+use Rattle.tr_script.specs.declared.script.Line.{Line}
+use Rattle.tr_script.specs.declared.script.Line.TheVariants.{Mkfs}
 use Rattle.tr_top.specs.Along.{Place, Follows, start_of, followed}
 
 -- the greatest number of entries of a trace

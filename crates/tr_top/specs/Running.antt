@@ -4,7 +4,7 @@ use Rattle.std.specs.declared.result.Result.{Result}
 use Rattle.std.specs.Io.KnownBytes.{Appends}
 use Rattle.pm_words.specs.Word.{Word}
 use Rattle.pm_words.specs.Memory.{all_durable}
-use Rattle.tr_types.specs.Layout.{page_at, root_control, root_page}
+use Rattle.zo_layout.specs.Layout.{page_at, root_control, root_page}
 use Rattle.tr_types.specs.KernelView.{pages_of}
 use Rattle.tr_types.specs.Machine.{Machine}
 use Rattle.tr_types.specs.Traces.{last_answer}
@@ -20,16 +20,17 @@ use Rattle.tr_types.specs.declared.action.Answer.TheVariants.{Done}
 use Rattle.tr_types.specs.declared.command.Command.{Command}
 use Rattle.tr_types.specs.Fold.{state_after}
 use Rattle.tr_types.specs.Marks.{mark_of}
-use Rattle.tr_top.specs.declared.call.Coffer.{Coffer}
-use Rattle.tr_top.specs.declared.call.CallRun.{CallRun}
+use Rattle.zo_ops.specs.declared.call.Coffer.{Coffer}
+use Rattle.zo_ops.specs.declared.call.CallRun.{CallRun}
 use Rattle.tr_top.specs.declared.runner.Stop.{Stop}
 use Rattle.tr_top.specs.declared.runner.Stop.TheVariants.{Full, NoMemory, OutFailed}
-use Rattle.tr_top.specs.declared.script.Line.{Line}
-use Rattle.tr_top.specs.declared.script.Line.TheVariants.{Mkfs}
-use Rattle.tr_top.specs.Grammar.{Declared, declared, nothing_declared, MayStand, IsCommand}
+use Rattle.tr_script.specs.declared.script.Line.{Line}
+use Rattle.tr_script.specs.declared.script.Line.TheVariants.{Mkfs}
+use Rattle.tr_script.specs.Grammar.{Declared, declared, nothing_declared, MayStand}
+use Rattle.tr_types.specs.Commands.{IsCommand}
 use Rattle.tr_top.specs.Along.{Place, IsAtEnd, rest}
-use Rattle.tr_top.specs.Knows.{Ground, StageKnows}
-use Rattle.tr_top.specs.Text.{brief_text, brief_texts}
+use Rattle.zo_ops.specs.Knows.{Ground, StageKnows}
+use Rattle.tr_script.specs.Text.{brief_text, brief_texts}
 use Rattle.tr_top.specs.Run.{IsRun, trace_limit, pages_made, opening, world_after, place_after}
 
 -- one entry was added to the trace, and its text handed to a sink

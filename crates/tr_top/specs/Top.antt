@@ -5,12 +5,12 @@ use Rattle.tr_types.specs.declared.entry.Entry.{Entry}
 use Rattle.tr_outside.specs.Causes.{Rose}
 use Rattle.tr_outside.specs.ImageBytes.{image_bytes}
 use Rattle.tr_outside.specs.Whole.{AppendsFront, ReadsUpTo}
-use Rattle.tr_top.specs.declared.script.Line.{Line}
-use Rattle.tr_top.specs.declared.status.Status.{Status}
-use Rattle.tr_top.specs.declared.status.Status.TheVariants.{Done, Usage, BadScript, ReadFault, WriteFault, NoMemory, Full}
-use Rattle.tr_top.specs.Grammar.{IsScript, text_limit}
+use Rattle.tr_script.specs.declared.script.Line.{Line}
+use Rattle.tr_script.specs.declared.status.Status.{Status}
+use Rattle.tr_script.specs.declared.status.Status.TheVariants.{Done, Usage, BadScript, ReadFault, WriteFault, NoMemory, Full}
+use Rattle.tr_script.specs.Grammar.{IsScript, text_limit}
 use Rattle.tr_top.specs.Along.{IsAtEnd}
-use Rattle.tr_top.specs.Text.{brief_texts}
+use Rattle.tr_script.specs.Text.{brief_texts}
 use Rattle.tr_top.specs.Run.{IsRun, trace_limit, place_after, last_words}
 
 -- What the sinks tell at a moment: the bytes that each took, where they are known, and its count of faults.

@@ -1,19 +1,19 @@
 // The machine: the words of the image, and the kernel's call that enlarges the root coffer.
 ghost use Rattle.std.specs.Prelude.{◌≡◌, ◌<◌, ◌≤◌, ◌∷◌, ◌↔◌, length, IfOk, IsTrue};
 ghost use Rattle.pm_words.specs.Memory.{present_values, all_durable, store_at, IsAddress};
-ghost use Rattle.tr_types.specs.Layout.{page_at, kernel_pages, owner_word};
+ghost use Rattle.zo_layout.specs.Layout.{page_at, kernel_pages, owner_word};
 ghost use Rattle.tr_types.specs.NewImage.{new_image};
 ghost use Rattle.tr_types.specs.KernelView.{pages_of, free_pages};
 ghost use Rattle.tr_types.specs.Machine.{Answers, acted, IsLoaded, IsStored, IsCalled, IsEnlarged, called};
 ghost use Rattle.tr_types.specs.declared.action.Action.TheVariants.{Store, Kernel};
 ghost use Rattle.tr_types.specs.declared.kernel_call.Kcall.TheVariants.{Enlarge};
-ghost use Rattle.tr_top.specs.Calls.{IsCallAction, IsEnlarge};
+ghost use Rattle.zo_ops.specs.Calls.{IsCallAction, IsEnlarge};
 
 use pm_words::{Image, NoMemory, Words};
 use sqlite_items::{Boxed, Items};
 use std::alloc::Global;
 use std::marker::Model;
-use tr_types::layout::{WORD_BYTES, owner_word, page_at, root_page};
+use zo_layout::{WORD_BYTES, owner_word, page_at, root_page};
 use tr_types::{Action, Answer, FaultKind, Kcall, KernAnswer};
 
 /// A memory over an image, and the first page that is nobody's.
@@ -28,7 +28,7 @@ pub(crate) struct Machine {
 impl Model for Machine {
     ghost use Rattle.std.specs.Prelude.{List};
     ghost use Rattle.pm_words.specs.Word.{Word};
-    ghost use Rattle.tr_top.specs.FreePages.{IsFreeFrom};
+    ghost use Rattle.tr_types.specs.FreePages.{IsFreeFrom};
 
     ghost Value = { List Word };
 

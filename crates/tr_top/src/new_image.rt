@@ -5,7 +5,7 @@ ghost use Rattle.tr_types.specs.NewImage as spec;
 use pm_words::{Image, NoMemory};
 use std::alloc::Global;
 use std::marker::Model;
-use tr_types::layout;
+use zo_layout;
 
 /// Words of a page.
 const PAGE_WORDS: u32 = layout::PAGE_WORDS as u32;
@@ -43,7 +43,7 @@ struct Tables {
 
 impl Model for Tables {
     ghost use Rattle.std.specs.Prelude.{ℕ, ◌≡◌, ◌≤◌};
-    ghost use Rattle.tr_types.specs.Layout as layout;
+    ghost use Rattle.zo_layout.specs.Layout as layout;
 
     // the number of pages, from which all else follows
     ghost Value = { ℕ };

@@ -3,28 +3,27 @@ ghost use Rattle.std.specs.Prelude.{◌≡◌, ◌+◌, ◌≤◌, ◌<◌, [], 
 ghost use Rattle.pm_words.specs.Memory.{present_values};
 ghost use Rattle.tr_types.specs.declared.action.Answer.{Answer};
 ghost use Rattle.tr_types.specs.Fold.{Each};
-ghost use Rattle.tr_types.specs.Layout.{page_at, root_control, root_page};
+ghost use Rattle.zo_layout.specs.Layout.{page_at, root_control, root_page};
 ghost use Rattle.tr_types.specs.Machine.{IsThread, Answers};
 ghost use Rattle.tr_types.specs.World.{MayCome};
 ghost use Rattle.tr_top.specs.declared.runner.Stop.TheVariants.{NoMemory, OutFailed};
-ghost use Rattle.tr_top.specs.Grammar.{MayStand, declared, nothing_declared, IsCommand};
+ghost use Rattle.tr_script.specs.Grammar.{MayStand, declared, nothing_declared};
+ghost use Rattle.tr_types.specs.Commands.{IsCommand};
 ghost use Rattle.tr_top.specs.Along.{MayFollow, IsAtEnd};
-ghost use Rattle.tr_top.specs.Calls.{IsCallAction};
+ghost use Rattle.zo_ops.specs.Calls.{IsCallAction};
 ghost use Rattle.tr_top.specs.Run.{IsRight, pages_made, world_after, place_after};
 ghost use Rattle.tr_top.specs.Running.{Added, Goes, IsTied, IsQuiet, IsAtStage, IsTurned, WhoStays, IsStill, IsNextLine, Passes, IsAnsweredAt, IsCallOf, TurnsTo, IsActionAt};
 
-use crate::call::{CallRun, CallStep, Coffer};
-use crate::link::Addr;
 use crate::machine::Machine;
 use crate::new_image::new_image;
-use crate::text::append_brief_text;
-use crate::{Line, Script};
 use pm_words::Image;
 use std::alloc::{AllocError, Global};
 use thiserror::Error;
 use tr_outside::{Sink, WriteFault, write_all};
-use tr_types::layout::{page_at, root_control, root_page};
+use tr_script::{Line, Script, append_brief_text};
+use zo_layout::{page_at, root_control, root_page};
 use tr_types::{Action, Answer, Command, Entry, Mark, Trace};
+use zo_ops::{Addr, CallRun, CallStep, Coffer};
 
 /// The greatest number of entries of a trace.
 const TRACE_LIMIT: usize = 4_194_304;

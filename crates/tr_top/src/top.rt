@@ -4,16 +4,15 @@ ghost use Rattle.std.specs.String.{string_bytes};
 ghost use Rattle.pm_words.specs.Memory.{present_values};
 ghost use Rattle.tr_types.specs.Fold.{Each};
 ghost use Rattle.tr_outside.specs.ImageBytes.{image_bytes};
-ghost use Rattle.tr_top.specs.Grammar.{MayStand, declared, nothing_declared};
+ghost use Rattle.tr_script.specs.Grammar.{MayStand, declared, nothing_declared};
 ghost use Rattle.tr_top.specs.Run.{pages_made};
 ghost use Rattle.tr_top.specs.Top.{IsAnswered, IsForm, ReadsScript, RunEnds};
 ghost use Rattle.tr_top.specs.Ending.{IsRefusal, IsSaved, stop_status};
 
-use crate::reader::{ScriptFault, read_script};
 use crate::runner::{Runner, Stop};
-use crate::{Line, Script, Status};
 use std::alloc::Global;
 use tr_outside::{ReadError, Sink, Source, read_up_to, write_image};
+use tr_script::{Line, Script, ScriptFault, Status, read_script};
 use tr_types::Trace;
 
 /// The greatest length of a script in bytes.

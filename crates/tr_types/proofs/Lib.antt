@@ -1,2 +1,4 @@
 -- laws of folds along a list of entries
 pub mod FoldLemmas
+-- laws of the free pages
+pub mod FreePages

@@ -2,7 +2,7 @@
 use Rattle.std.specs.Prelude.{◌≡◌, ◌≢◌, ℕ, ◌/◌, ◌%◌, ◌^◌, ◌<◌, ◌≤◌, List, [], ◌∷◌, length, slice_index, Contains, Some}
 use Rattle.pm_words.specs.Word.{Word}
 use Rattle.pm_words.specs.Memory.{word_at}
-use Rattle.tr_types.specs.Layout.{page_at, root_control, root_page, bucket_head, bucket_of, entry_place, entry_target, name_length, name_word, file_map, word_of}
+use Rattle.zo_layout.specs.Layout.{page_at, root_control, root_page, bucket_head, bucket_of, entry_place, entry_target, name_length, name_word, file_map, word_of}
 use Rattle.tr_types.specs.KernelView.{pages_of, owner_of}
 use Rattle.tr_types.specs.Tree.{Member, Node, Directory, FileOf, node_at}
 

@@ -3,7 +3,7 @@ use Rattle.std.specs.Prelude.{ℕ, ◌/◌, List, length, fold, filter, ◌==◌
 use Rattle.std.specs.List.{range_with_len}
 use Rattle.pm_words.specs.Word.{Word}
 use Rattle.pm_words.specs.Memory.{word_at, store_at}
-use Rattle.tr_types.specs.Layout.{owner_word}
+use Rattle.zo_layout.specs.Layout.{owner_word}
 
 -- how many pages a memory has
 abbrev pub pages_of : List Word → ℕ

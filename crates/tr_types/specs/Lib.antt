@@ -1,7 +1,5 @@
 -- a state folded along a list of entries
 pub mod Fold
--- where the fields of an image stand
-pub mod Layout
 -- every word of a new image
 pub mod NewImage
 -- what the kernel's pages say
@@ -12,6 +10,10 @@ pub mod Rights
 pub mod Machine
 -- what the actions of a call are for
 pub mod Marks
+-- which pages are free, by one number
+pub mod FreePages
+-- which commands can be given
+pub mod Commands
 -- the tree that users see, and what commands are answered
 pub mod Tree
 -- what the words of an image denote

@@ -1,7 +1,7 @@
 -- What the actions of a call are for. Every store by which a change comes about is marked `Commit`: of a `create`
 -- it is the store to the head of the name's bucket. All other actions that a call makes now are `Plain`.
 use Rattle.std.specs.Prelude.{ℕ, List, Bool, false, drop, if◌then◌else◌, ◌==◌}
-use Rattle.tr_types.specs.Layout.{bucket_head, bucket_of}
+use Rattle.zo_layout.specs.Layout.{bucket_head, bucket_of}
 use Rattle.tr_types.specs.declared.action.Action.{Action}
 use Rattle.tr_types.specs.declared.action.Action.TheVariants.{Store}
 use Rattle.tr_types.specs.declared.command.Command.{Command}

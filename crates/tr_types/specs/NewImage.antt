@@ -1,7 +1,7 @@
 -- Every word of a new image of a number of pages.
 use Rattle.std.specs.Prelude.{ℕ, ◌+◌, ◌-◌, ◌*◌, ◌/◌, ◌%◌, List, map, if◌then◌else◌, ◌==◌, nat_lt}
 use Rattle.std.specs.List.{range_with_len}
-use Rattle.tr_types.specs.Layout.{kernel_pages, owner_table, coffer_table, bucket_page, root_control, root_page}
+use Rattle.zo_layout.specs.Layout.{kernel_pages, owner_table, coffer_table, bucket_page, root_control, root_page}
 
 -- the superblock: the bytes `TREASURY`, the version, the number of pages
 abbrev pub superblock_word : ℕ → ℕ → ℕ

@@ -8,7 +8,7 @@ use Rattle.tr_types.specs.declared.action.Answer.TheVariants.{Word as WordIs, Do
 use Rattle.tr_types.specs.declared.action.Action.{Action}
 use Rattle.tr_types.specs.declared.action.Action.TheVariants.{Load, Store, Kernel}
 use Rattle.pm_words.specs.Word.{Word}
-use Rattle.tr_types.specs.Layout.{page_at, root_control, pool_head}
+use Rattle.zo_layout.specs.Layout.{page_at, root_control, pool_head}
 use Rattle.tr_types.specs.KernelView.{pages_of}
 use Rattle.tr_types.specs.declared.command.Reply.TheVariants.{NoSpace}
 use Rattle.tr_types.specs.declared.command.Command.{Command}

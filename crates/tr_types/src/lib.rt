@@ -1,12 +1,11 @@
 //! What the parts of the laboratory say to each other: actions and answers, commands and replies,
-//! kernel calls, the entries of a trace, and where the fields of an image stand.
+//! kernel calls, and the entries of a trace.
 #![tactic(auto)]
 
 mod action;
 mod command;
 mod entry;
 mod kernel_call;
-pub mod layout;
 mod permission;
 mod rule;
 mod text;

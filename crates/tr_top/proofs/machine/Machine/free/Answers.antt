@@ -1,4 +1,4 @@
-use Rattle.tr_top.proofs.FreePages.{free_count}
+use Rattle.tr_types.proofs.FreePages.{free_count}
 use Rattle.tr_top.proofs.machine.Machine.free.Goals as goal
 
 pub returns : goal.returns

@@ -1,5 +1,5 @@
 use Rattle.std.proofs.Common.{ℕ, ◌<◌, sym, subst}
-use Rattle.tr_top.proofs.FreePages.{first_inside, free_after_give, first_and_rest}
+use Rattle.tr_types.proofs.FreePages.{first_inside, free_after_give, first_and_rest}
 use Rattle.tr_top.proofs.machine.Machine.give_first.Goals as goal
 
 pub owner_word-requires-clause-inside : goal.owner_word-requires-clause-inside

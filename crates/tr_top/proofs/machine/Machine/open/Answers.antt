@@ -1,4 +1,4 @@
-use Rattle.tr_top.proofs.FreePages.{has_pages_new, free_opened}
+use Rattle.tr_types.proofs.FreePages.{has_pages_new, free_opened}
 use Rattle.tr_top.proofs.machine.Machine.open.Goals as goal
 
 pub of_image-requires : goal.of_image-requires

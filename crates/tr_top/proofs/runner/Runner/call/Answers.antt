@@ -1,6 +1,6 @@
 use Rattle.std.proofs.Common.{sym, ◌∙◌, ◌≡◌, subst}
 use Rattle.std.proofs.lemmas.Result.{err_from_is_err_and}
-use Rattle.tr_top.specs.Grammar.{IsCommand}
+use Rattle.tr_types.specs.Commands.{IsCommand}
 use Rattle.tr_top.proofs.CallRuns.{call_runs}
 use Rattle.tr_top.proofs.RunLemmas.{goes_nowhere}
 use Rattle.tr_top.proofs.RightSteps.{call_right, call_begins}

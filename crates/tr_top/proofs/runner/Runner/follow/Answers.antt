@@ -1,5 +1,5 @@
 use Rattle.std.proofs.Common.{refl}
-use Rattle.tr_top.proofs.LoadSteps.{ground_denotes}
+use Rattle.zo_ops.proofs.LoadSteps.{ground_denotes}
 use Rattle.tr_top.proofs.RightSteps.{quiet_still}
 use Rattle.tr_top.proofs.RunLemmas.{mkfs_comes}
 use Rattle.tr_top.proofs.runner.Runner.follow.Goals as goal

@@ -1,5 +1,5 @@
 use Rattle.std.proofs.Common.{◌≡◌, ◌<◌, List, length, get_or, sym, ap, ◌∙◌, subst}
-use Rattle.tr_top.specs.declared.script.Line.{Line}
+use Rattle.tr_script.specs.declared.script.Line.{Line}
 use Rattle.tr_top.specs.Running.{IsNextLine}
 use Rattle.tr_top.proofs.LineRuns.{next_line, line_followed}
 use Rattle.tr_top.proofs.runner.Runner.run.Goals as goal

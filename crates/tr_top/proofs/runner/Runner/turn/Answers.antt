@@ -3,12 +3,12 @@ use Rattle.std.proofs.lemmas.Result.{err_from_is_err_and}
 use Rattle.tr_types.specs.declared.entry.Entry.TheVariants.{Reply}
 use Rattle.tr_top.specs.Run.{place_after}
 use Rattle.tr_types.specs.KernelView.{pages_of}
-use Rattle.tr_types.specs.Layout.{page_at, root_control}
-use Rattle.tr_top.specs.declared.call.Coffer.{Coffer}
-use Rattle.tr_top.specs.Calls.{IsCallAction, IsStepOf}
+use Rattle.zo_layout.specs.Layout.{page_at, root_control}
+use Rattle.zo_ops.specs.declared.call.Coffer.{Coffer}
+use Rattle.zo_ops.specs.Calls.{IsCallAction, IsStepOf}
 use Rattle.tr_top.specs.Running.{answer_after}
-use Rattle.tr_top.specs.Knows.{StepsFrom}
-use Rattle.tr_top.specs.declared.call.CallStep.TheVariants as step
+use Rattle.zo_ops.specs.Knows.{StepsFrom}
+use Rattle.zo_ops.specs.declared.call.CallStep.TheVariants as step
 use Rattle.tr_top.proofs.RightSteps.{spares_kernel, heard_is, act_right, act_turns, reply_right, reply_turns}
 use Rattle.tr_top.proofs.RunLemmas.{run_more, goes_ok, goes_err, tied_more, reply_follows}
 use Rattle.tr_top.proofs.runner.Runner.turn.Goals as goal

@@ -1,0 +1,139 @@
+// Reads the text of a script, line by line and word by word.
+ghost use Rattle.std.specs.Prelude.{◌≡◌, ◌<◌, ◌≤◌, ◌+◌, ◌^◌, List, [], ◌∷◌, length, IfOk, IfErr};
+ghost use Rattle.tr_script.specs.Grammar.{lines_of, is_kept, nothing_declared, IsScript};
+ghost use Rattle.tr_script.specs.Reading.{OnBad, OnBadLine, Reads, IsCountedFrom1};
+ghost use Rattle.tr_script.specs.declared.script.Line.{Line};
+
+use crate::{Line, Script};
+use line::line;
+use memchr::memchr;
+use place::{Fault, Place};
+use seen::Seen;
+use std::alloc::Global;
+use thiserror::Error;
+use words::Words;
+
+mod line;
+mod place;
+mod seen;
+mod spelling;
+mod words;
+
+/// The greatest length of a script in bytes.
+const TEXT_LIMIT: usize = 4_194_304;
+
+/// Why a text was not read as a script.
+#[derive(Debug, Drop, Error)]
+pub enum ScriptFault {
+    /// The first place where a script can't go on so. Lines and byte columns are counted from 1.
+    #[error("bad script at {line}:{column}")]
+    BadLine { line: u32, column: u32 },
+    /// Memory ran out. Nothing is said of the text.
+    #[error("no memory")]
+    NoMemory,
+}
+
+/// The first line of a text, without its line feed, and the text behind it.
+fn split_line(text: &[u8]) -> (&[u8], &[u8])
+    requires { 0 < length text.now }
+    ensures lines { lines_of text.now ≡ result.0.now ∷ lines_of result.1.now }
+    ensures line_fits { length result.0.now ≤ length text.now }
+    ensures shorter { length result.1.now < length text.now }
+{
+    match memchr(b'\n', text) {
+        Some(end) => (&text[..end], &text[end + 1..]),
+        None => (text, &[]),
+    }
+}
+
+/// Empty lines and notes are passed over.
+fn is_kept(line: &[u8]) -> bool
+    ensures { result ≡ is_kept line.now }
+{
+    !matches!(line, [] | [b'#', ..])
+}
+
+/// The lines of a text, whatever limit its length is held to. There is at least one.
+fn read_lines(alloc: Global, text: &[u8]) -> Result<Vec<Line>, Fault>
+    requires { length text.now < 2 ^ 31 }
+    ensures some { IfOk result (λ lines. 0 < length lines.items) }
+    ensures ok { IfOk result (λ lines. Reads nothing_declared text.now lines.items) }
+    ensures bad { OnBad result ((lines : List Line) → Reads nothing_declared text.now lines → lines ≡ []) }
+{
+    let mut seen = Seen::nothing();
+    let mut lines = Vec::new(alloc);
+    let mut rest = text;
+    let mut number: u32 = 1;
+    while !rest.is_empty() {
+        let (bytes, after) = split_line(rest);
+        if is_kept(bytes) {
+            let line = line(alloc, &seen, &mut Words::of(bytes, number))?;
+            seen.add(&line);
+            lines.push(line)?;
+        }
+        rest = after;
+        number += 1;
+    }
+    if lines.is_empty() {
+        return Err(Fault::Bad(Place {
+            line: number,
+            column: 1,
+        }));
+    }
+    Ok(lines)
+}
+
+/// The place behind the text.
+fn place_after(text: &[u8]) -> Place
+    requires { length text.now < 2 ^ 31 }
+{
+    let mut line = 1;
+    let mut column = 1;
+    for byte in text {
+        if *byte == b'\n' {
+            line += 1;
+            column = 1;
+        } else {
+            column += 1;
+        }
+    }
+    Place { line, column }
+}
+
+/// The fault of a text that is over the limit by one byte: its first bad place, which is at most that byte's.
+fn fault_over_limit(alloc: Global, text: &[u8]) -> Fault
+    requires { length text.now ≡ TEXT_LIMIT + 1 }
+{
+    let (inside, _) = text.split_at(TEXT_LIMIT);
+    let limit = place_after(inside);
+    match read_lines(alloc, text) {
+        Ok(_) => Fault::Bad(limit),
+        Err(Fault::Bad(place)) => Fault::Bad(place.min(limit)),
+        Err(Fault::NoMemory) => Fault::NoMemory,
+    }
+}
+
+/// Reads a script. Of a text that is over the limit, no more than the first byte past it is looked at.
+///
+/// # Errors
+///
+/// The first place that is bad, or want of memory.
+pub fn read_script(alloc: Global, text: &[u8]) -> Result<Script, ScriptFault>
+    ensures script { IfOk result (λ s. IsScript text.now s) }
+    ensures refused { OnBadLine result ((lines : List Line) → IsScript text.now lines → ⊥) }
+    ensures counted_from_1 { IfErr result IsCountedFrom1 }
+{
+    let read = if text.len() <= TEXT_LIMIT {
+        read_lines(alloc, text)
+    } else {
+        Err(fault_over_limit(alloc, &text[..=TEXT_LIMIT]))
+    };
+    match read {
+        Ok(lines) => Ok(Script::new(lines)),
+        Err(Fault::Bad(Place { line, column })) => Err(ScriptFault::BadLine { line, column }),
+        Err(Fault::NoMemory) => Err(ScriptFault::NoMemory),
+    }
+}
+
+#[cfg(test)]
+mod tests;

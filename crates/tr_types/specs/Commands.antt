@@ -1,0 +1,26 @@
+-- Which paths and commands can be given.
+use Rattle.std.specs.Prelude.{◌≡◌, ◌≢◌, ◌⊎◌, ℕ, ◌<◌, ◌≤◌, List, [], ◌∷◌, length, All, codes}
+use Rattle.tr_types.specs.declared.command.Command.{Command}
+use Rattle.tr_types.specs.declared.command.Command.TheVariants.{Create, Stat}
+
+abbrev pub IsNameByte : ℕ → Type 0
+IsNameByte byte = (33 ≤ byte) × (byte ≤ 126) × (byte ≢ 47)
+
+pub record IsName (name : List ℕ) : Type 0 where
+  pub some : 0 < length name
+  pub short : length name ≤ 255
+  pub bytes : All IsNameByte name
+  pub no_dot : name ≢ codes "."
+  pub no_dots : name ≢ codes ".."
+
+-- a path of one name
+abbrev pub IsPathOfOne : List ℕ → Type 0
+IsPathOfOne [] = ⊥
+IsPathOfOne (byte ∷ name) = (byte ≡ 47) × IsName name
+
+abbrev pub IsPath : List ℕ → Type 0
+IsPath path = (path ≡ codes "/") ⊎ IsPathOfOne path
+
+abbrev pub IsCommand : Command → Type 0
+IsCommand (Create path mode) = IsPathOfOne path × (mode ≡ 438)
+IsCommand (Stat path) = IsPath path

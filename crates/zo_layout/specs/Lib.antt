@@ -1,0 +1,2 @@
+-- where the fields of an image stand
+pub mod Layout

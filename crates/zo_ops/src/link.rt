@@ -1,0 +1,48 @@
+// Addresses that a call follows.
+ghost use Rattle.std.specs.Prelude.{◌≡◌, ◌≢◌, ◌↔◌, ℕ, ◌<◌, ◌≤◌, ◌^◌, MatchOption};
+
+use tr_types::Answer;
+use zo_layout::FAR;
+
+/// The address of an entry, a page or a word: not 0, and so low that sums of addresses don't wrap.
+#[derive(Clone, Copy, Debug, PartialEq, Eq)]
+pub struct Addr {
+    pub at: u64,
+    ghost some: { 0 < at },
+    ghost near: { at < 2 ^ 60 },
+}
+
+/// Where a word of the image leads, if it is an address of the image or 0.
+#[derive(Clone, Copy, Debug, PartialEq, Eq)]
+pub(crate) enum Link {
+    End,
+    To(Addr),
+    /// To no place of any image.
+    Astray,
+}
+
+impl Link {
+    pub fn of(word: u64) -> Link
+        ensures end { (result ≡ Link.End) ↔ (word ≡ 0) }
+        ensures to { (entry : _) → result ≡ Link.To entry → entry.at ≡ word }
+        ensures astray { (result ≡ Link.Astray) ↔ (2 ^ 60 ≤ word) }
+    {
+        if word == 0 {
+            Link::End
+        } else if word < FAR {
+            Link::To(Addr { at: word })
+        } else {
+            Link::Astray
+        }
+    }
+}
+
+/// The word that a load was answered, if it was.
+pub(crate) fn loaded(answer: &Answer) -> Option<u64>
+    ensures { MatchOption result ((word : ℕ) → answer.now ≢ Answer.Word word) (λ word. answer.now ≡ Answer.Word word) }
+{
+    match answer {
+        Answer::Word(word) => Some(*word),
+        _ => None,
+    }
+}
