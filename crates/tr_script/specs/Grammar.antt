@@ -5,6 +5,7 @@ use Rattle.std.specs.Fmt.{decimal}
 use Rattle.tr_types.specs.Fold.{Each}
 use Rattle.tr_types.specs.declared.command.Command.{Command}
 use Rattle.tr_types.specs.declared.command.Command.TheVariants.{Create, Stat}
+use Rattle.tr_types.specs.Commands.{IsCommand}
 use Rattle.tr_script.specs.declared.script.Line.{Line}
 use Rattle.tr_script.specs.declared.script.Line.TheVariants.{Mkfs, Process, Thread, Do}
 
