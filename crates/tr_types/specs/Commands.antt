@@ -24,3 +24,13 @@ IsPath path = (path ≡ codes "/") ⊎ IsPathOfOne path
 abbrev pub IsCommand : Command → Type 0
 IsCommand (Create path mode) = IsPathOfOne path × (mode ≡ 438)
 IsCommand (Stat path) = IsPath path
+
+-- the path whose coffer a command consults: of a `create` that of the directory in which it makes the file
+abbrev pub consulted_path : Command → List ℕ
+consulted_path (Create path mode) = codes "/"
+consulted_path (Stat path) = path
+
+-- the right that a command needs on that coffer: 1 is Read, 2 is Write
+abbrev pub right_needed : Command → ℕ
+right_needed (Create path mode) = 2
+right_needed (Stat path) = 1

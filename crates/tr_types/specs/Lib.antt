@@ -20,5 +20,7 @@ pub mod Tree
 pub mod Denotes
 -- one state for a whole trace
 pub mod World
+-- windows and confinement
+pub mod Windows
 -- what a trace shows
 pub mod Traces

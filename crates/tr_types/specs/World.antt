@@ -1,7 +1,8 @@
--- One state for a whole trace: the machine, the tree that its users see, what each thread's call is at, and whether
--- the coffer is lost. An entry moves it by a total function (`stepped`).
+-- One state for a whole trace: the machine, the tree that its users see, what each thread's call is at, which coffer it
+-- consults, and whether the coffer is lost. An entry moves it by a total function (`stepped`).
 use Rattle.std.specs.Prelude.{◌≡◌, ℕ, ◌≤◌, List, Bool, true, false, Option, Some, None, if◌then◌else◌, ◌==◌}
-use Rattle.tr_types.specs.Machine.{Machine, opened, moved, Fits}
+use Rattle.tr_types.specs.Machine.{Machine, opened, moved, Fits, coffer_of}
+use Rattle.tr_types.specs.Commands.{consulted_path, right_needed}
 use Rattle.tr_types.specs.Tree.{Member, new_tree, reply_to, tree_after, IsChange}
 use Rattle.tr_types.specs.declared.action.Answer.{Answer}
 use Rattle.tr_types.specs.declared.action.Answer.TheVariants.{Word as WordIs, Done, Kern}
@@ -17,8 +18,9 @@ use Rattle.tr_types.specs.declared.entry.Entry.{Entry}
 use Rattle.tr_types.specs.declared.entry.Entry.TheVariants as entry
 use Rattle.tr_types.specs.declared.entry.Mark.{Mark}
 use Rattle.tr_types.specs.declared.entry.Mark.TheVariants.{Commit}
-use Rattle.tr_types.specs.declared.kernel_call.Kcall.TheVariants.{Enlarge}
-use Rattle.tr_types.specs.declared.kernel_call.KernAnswer.TheVariants.{NoPages}
+use Rattle.tr_types.specs.declared.kernel_call.Kcall.{Kcall}
+use Rattle.tr_types.specs.declared.kernel_call.Kcall.TheVariants.{Find, Map, Unmap, Enlarge}
+use Rattle.tr_types.specs.declared.kernel_call.KernAnswer.TheVariants.{Found, NoPages}
 
 -- pages asked for and pages free, at a refused Enlarge
 pub record Shortage : Type 0 where
@@ -36,16 +38,22 @@ pub record World : Type 0 where
   pub machine : Machine
   pub tree : List Member
   pub phases : ℕ → Phase
-  -- whether a store that nobody answers for has come to the root coffer; none comes yet
+  -- the coffer that each thread's command consulted at its call's last Find
+  pub consulted : ℕ → Option ℕ
+  -- whether a store that nobody answers for has come to the root coffer
   pub lost : Bool
 
 -- the world as it opens over a new image
 abbrev pub world_of : List ℕ → World
-world_of image = record { machine = opened image; tree = new_tree; phases = λ _. Idle; lost = false }
+world_of image = record { machine = opened image; tree = new_tree; phases = λ _. Idle; consulted = λ _. None; lost = false }
 
 -- the phases, with another one for a thread
 abbrev pub put : (ℕ → Phase) → ℕ → Phase → ℕ → Phase
 put phases thread phase t = if t == thread then phase else phases t
+
+-- the same of what is consulted
+abbrev pub put_consulted : (ℕ → Option ℕ) → ℕ → Option ℕ → ℕ → Option ℕ
+put_consulted consulted thread coffer t = if t == thread then coffer else consulted t
 
 -- A load of the head of the root coffer's pool, the word at `pool`, shows whether the pool is empty.
 abbrev pub drained_after : ℕ → Bool → Action → Answer → Bool
@@ -83,17 +91,35 @@ changed mark answer tree phase = tree
 abbrev pub pool_of : List Word → ℕ
 pool_of words = pool_head (page_at (root_control (pages_of words))) 0
 
+-- a Find shows the coffer of the path that the command consults
+abbrev pub consulted_after : List Word → Phase → Action → Answer → Option ℕ → Option ℕ
+consulted_after words (Runs command drained refused) (Kernel (Find path also)) (Kern (Found first second)) coffer = Some (coffer_of words (consulted_path command))
+consulted_after words phase action answer coffer = coffer
+
+-- a stray store that is done makes the root coffer lost, since there is no other to which it can go
+abbrev pub lost_after : Answer → Bool → Bool
+lost_after Done lost = true
+lost_after answer lost = lost
+
 -- the world after an entry
 abbrev pub stepped : World → Entry → World
-stepped w (entry.Call thread command) = record { machine = moved w.machine (entry.Call thread command); tree = w.tree; phases = put w.phases thread (Runs command false None); lost = w.lost }
+stepped w (entry.Call thread command) = record {
+  machine = moved w.machine (entry.Call thread command);
+  tree = w.tree;
+  phases = put w.phases thread (Runs command false None);
+  consulted = put_consulted w.consulted thread None;
+  lost = w.lost;
+}
 stepped w (entry.Act thread now mark action answer) = record {
   machine = moved w.machine (entry.Act thread now mark action answer);
   tree = changed mark answer w.tree (w.phases thread);
-  phases = put w.phases thread (phase_after (pool_of w.machine.words) w.tree mark action answer (w.phases thread));
+  phases = put w.phases thread (phase_after (pool_of w.machine.bus.words) w.tree mark action answer (w.phases thread));
+  consulted = put_consulted w.consulted thread (consulted_after w.machine.bus.words (w.phases thread) action answer (w.consulted thread));
   lost = w.lost;
 }
-stepped w (entry.Reply thread reply) = record { machine = moved w.machine (entry.Reply thread reply); tree = w.tree; phases = put w.phases thread Idle; lost = w.lost }
-stepped w e = record { machine = moved w.machine e; tree = w.tree; phases = w.phases; lost = w.lost }
+stepped w (entry.Reply thread reply) = record { machine = moved w.machine (entry.Reply thread reply); tree = w.tree; phases = put w.phases thread Idle; consulted = put_consulted w.consulted thread None; lost = w.lost }
+stepped w (entry.Stray thread addr word answer) = record { machine = moved w.machine (entry.Stray thread addr word answer); tree = w.tree; phases = w.phases; consulted = w.consulted; lost = lost_after answer w.lost }
+stepped w e = record { machine = moved w.machine e; tree = w.tree; phases = w.phases; consulted = w.consulted; lost = w.lost }
 
 -- the machine allows the entry
 abbrev pub MayCome : World → Entry → Type 0
@@ -107,13 +133,22 @@ abbrev pub MayCommit : List Member → Phase → Answer → Type 0
 MayCommit tree (Runs command drained None) Done = IsChange tree command
 MayCommit tree phase answer = ⊥
 
--- Any other action is of a call that runs. It asks for pages, at most two at once, only after its pool showed none, and
--- only in a change that would succeed; and for none after its commit.
+-- Any other action is of a call that runs. It looks for the coffer that its command consults, and maps that one alone,
+-- not for itself alone, with the right that the command needs. It asks for pages, at most two at once, only after its pool
+-- showed none, and only in a change that would succeed; and of the kernel it asks for nothing after its commit but to end
+-- its map.
+abbrev pub MayAsk : List Member → Command → Bool → Option Shortage → Kcall → Type 0
+MayAsk tree command drained refused (Find path also) = (path ≡ consulted_path command) × (also ≡ None)
+MayAsk tree command drained refused (Map path right exclusive) = (right.0 ≡ right_needed command) × (exclusive ≡ false)
+MayAsk tree command drained refused (Unmap id) = Unit {0}
+MayAsk tree command drained refused (Enlarge id count) = (drained ≡ true) × (refused ≡ None) × (count ≤ 2) × IsChange tree command
+MayAsk tree command drained refused call = ⊥
+
 abbrev pub MayAct : List Member → Phase → Action → Type 0
 MayAct tree Idle action = ⊥
-MayAct tree (Runs command drained refused) (Kernel (Enlarge id count)) = (drained ≡ true) × (refused ≡ None) × (count ≤ 2) × IsChange tree command
-MayAct tree (Runs command drained refused) (Kernel call) = ⊥
+MayAct tree (Runs command drained refused) (Kernel call) = MayAsk tree command drained refused call
 MayAct tree (Runs command drained refused) action = Unit {0}
+MayAct tree (Committed reply) (Kernel (Unmap id)) = Unit {0}
 MayAct tree (Committed reply) (Kernel call) = ⊥
 MayAct tree (Committed reply) action = Unit {0}
 
@@ -125,6 +160,11 @@ IsLegalAct tree phase mark action answer = MayAct tree phase action
 abbrev pub SparesKernel : List Word → Action → Type 0
 SparesKernel words (Store addr word) = page_at (root_control (pages_of words)) ≤ addr
 SparesKernel words action = Unit {0}
+
+-- a call maps no coffer but the one that its command consulted at the last Find
+abbrev pub MapsConsulted : List Word → Option ℕ → Action → Type 0
+MapsConsulted words consulted (Kernel (Map path right exclusive)) = consulted ≡ Some (coffer_of words path)
+MapsConsulted words consulted action = Unit {0}
 
 -- What a call without a commit may reply: where it was refused pages, that there is no space for them, which it asked
 -- for in a change that would succeed; else what the tree answers, where that changes nothing.
@@ -144,6 +184,6 @@ MayBegin phase = ⊥
 -- the entry is legal in this world
 abbrev pub IsLegal : World → Entry → Type 0
 IsLegal w (entry.Call thread command) = MayBegin (w.phases thread)
-IsLegal w (entry.Act thread now mark action answer) = IsLegalAct w.tree (w.phases thread) mark action answer × SparesKernel w.machine.words action
+IsLegal w (entry.Act thread now mark action answer) = IsLegalAct w.tree (w.phases thread) mark action answer × SparesKernel w.machine.bus.words action × MapsConsulted w.machine.bus.words (w.consulted thread) action
 IsLegal w (entry.Reply thread reply) = MayReply w.tree (w.phases thread) reply
 IsLegal w e = Unit {0}

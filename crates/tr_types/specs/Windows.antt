@@ -1,0 +1,59 @@
+-- Windows and confinement: which coffer a thread may reach at a moment, and by what a word changes.
+use Rattle.std.specs.Prelude.{◌≡◌, ◌≢◌, ℕ, ◌/◌, ◌≤◌, Contains, true, false, Some, None}
+use Rattle.tr_types.specs.Machine.{Bus, pkru_of, store_refusal}
+use Rattle.tr_types.specs.Rights.{may_read, may_write}
+use Rattle.tr_types.specs.Denotes.{value}
+use Rattle.tr_types.specs.World.{World, Phase, Idle, Runs, stepped}
+use Rattle.tr_types.specs.declared.action.Action.TheVariants.{Store, Kernel}
+use Rattle.tr_types.specs.declared.action.Answer.TheVariants.{Done}
+use Rattle.tr_types.specs.declared.command.Command.TheVariants.{Stat}
+use Rattle.tr_types.specs.declared.kernel_call.Holder.{Holder}
+use Rattle.tr_types.specs.declared.entry.Entry.{Entry}
+use Rattle.tr_types.specs.declared.entry.Entry.TheVariants as entry
+
+-- a key of a coffer
+pub record IsKey (key : ℕ) : Type 0 where
+  pub least : 1 ≤ key
+  pub most : key ≤ 15
+
+-- a thread's window is open by this key: its own register allows accesses by it
+abbrev pub IsOpen : Bus → ℕ → ℕ → Type 0
+IsOpen bus thread key = IsKey key × (may_read (pkru_of bus thread) key ≡ true)
+
+-- the thread itself holds the coffer, under this key
+pub record HoldsUnder (bus : Bus) (thread coffer key : ℕ) : Type 0 where
+  pub row : Holder
+  pub among : Contains bus.holders row
+  pub thread_is : row.thread ≡ thread
+  pub coffer_is : row.id ≡ coffer
+  pub key_is : row.key ≡ key
+
+-- a call that changes nothing
+abbrev pub IsReading : Phase → Type 0
+IsReading (Runs (Stat path) drained refused) = Unit {0}
+IsReading phase = ⊥
+
+-- One window: a thread has at most one key open, and none outside a call, where it holds no coffer either. The key is
+-- that of a coffer which the thread itself holds and which its command consulted at the call's last Find. While the
+-- command only reads, the key allows no store.
+pub record IsWindowed (w : World) : Type 0 where
+  pub one : (thread key other : ℕ) → IsOpen w.machine.bus thread key → IsOpen w.machine.bus thread other → key ≡ other
+  pub closed : (thread key : ℕ) → w.phases thread ≡ Idle → IsOpen w.machine.bus thread key → ⊥
+  pub unmapped : (thread : ℕ) (row : Holder) → w.phases thread ≡ Idle → Contains w.machine.bus.holders row → row.thread ≢ thread
+  pub consulted : (thread key : ℕ) → IsOpen w.machine.bus thread key → (coffer : ℕ) × (w.consulted thread ≡ Some coffer) × HoldsUnder w.machine.bus thread coffer key
+  pub reading : (thread key : ℕ) → IsReading (w.phases thread) → IsKey key → may_write (pkru_of w.machine.bus thread) key ≡ false
+
+abbrev pub LeavesWindows : World → Entry → Type 0
+LeavesWindows w e = IsWindowed (stepped w e)
+
+-- The entry may change the word at an address: it is a store to that word, by a thread to which the rights permit it at
+-- that moment, or a kernel call.
+abbrev pub MayChange : Bus → Entry → ℕ → Type 0
+MayChange bus (entry.Act thread now mark (Store at word) Done) addr = (at / 8 ≡ addr / 8) × (store_refusal bus thread at ≡ None)
+MayChange bus (entry.Act thread now mark (Kernel call) answer) addr = Unit {0}
+MayChange bus (entry.Stray thread at word Done) addr = (at / 8 ≡ addr / 8) × (store_refusal bus thread at ≡ None)
+MayChange bus e addr = ⊥
+
+-- Confinement: a word changes by nothing else.
+abbrev pub IsConfined : World → Entry → Type 0
+IsConfined w e = (addr : ℕ) → value (stepped w e).machine.bus.words addr ≢ value w.machine.bus.words addr → MayChange w.machine.bus e addr
