@@ -163,6 +163,21 @@ Answers bus thread (Pkru pkru) answer = answer ≡ Done
 Answers bus thread (Kernel call) answer = IsCalled bus thread call answer
 Answers bus thread action answer = ⊥
 
+-- the actions that are built
+abbrev pub IsBuiltCall : Kcall → Type 0
+IsBuiltCall (Find path also) = also ≡ None
+IsBuiltCall (Map path right exclusive) = IsGiven right
+IsBuiltCall (Unmap id) = Unit {0}
+IsBuiltCall (Enlarge id count) = Unit {0}
+IsBuiltCall call = ⊥
+
+abbrev pub IsBuilt : Action → Type 0
+IsBuilt (Load addr) = Unit {0}
+IsBuilt (Store addr word) = Unit {0}
+IsBuilt (Pkru pkru) = Unit {0}
+IsBuilt (Kernel call) = IsBuiltCall call
+IsBuilt action = ⊥
+
 -- the memory after a kernel call that was answered so
 abbrev pub called : Kcall → KernAnswer → List Word → List Word
 called (Enlarge id count) (Pages pages) words = given_to id pages words
