@@ -1,13 +1,13 @@
 -- Which texts are scripts. A text is a script exactly where its kept lines are, one by one, the spellings of a list
 -- of lines that keeps to order and to what the lines above have declared.
-use Rattle.std.specs.Prelude.{◌≡◌, ◌≢◌, ◌⊎◌, ℕ, ◌+◌, ◌/◌, ◌%◌, ◌<◌, ◌≤◌, List, [], ◌∷◌, ◌++◌, length, map, filter, Contains, All, Bool, true, false, not, if◌then◌else◌, ◌==◌, codes}
+use Rattle.std.specs.Prelude.{◌≡◌, ◌≢◌, ◌⊎◌, ℕ, ◌+◌, ◌/◌, ◌%◌, ◌<◌, ◌≤◌, List, [], ◌∷◌, ◌++◌, length, map, filter, Contains, All, Bool, true, false, not, Option, Some, None, if◌then◌else◌, ◌==◌, codes}
 use Rattle.std.specs.Fmt.{decimal}
 use Rattle.tr_types.specs.Fold.{Each}
 use Rattle.tr_types.specs.declared.command.Command.{Command}
 use Rattle.tr_types.specs.declared.command.Command.TheVariants.{Create, Stat}
 use Rattle.tr_types.specs.Commands.{IsCommand}
 use Rattle.tr_script.specs.declared.script.Line.{Line}
-use Rattle.tr_script.specs.declared.script.Line.TheVariants.{Mkfs, Process, Thread, Do}
+use Rattle.tr_script.specs.declared.script.Line.TheVariants.{Mkfs, Process, Thread, Call, Do, Finish, Open, Stray}
 
 -- The lines and words of a text.
 
@@ -54,30 +54,58 @@ abbrev pub line_words : Line → List (List ℕ)
 line_words (Mkfs pages) = codes "mkfs" ∷ decimal pages ∷ []
 line_words (Process process cred) = codes "process" ∷ process_name process ∷ decimal cred.uid ∷ decimal cred.gid ∷ []
 line_words (Thread thread process) = codes "thread" ∷ thread_name thread ∷ process_name process ∷ []
+line_words (Call thread command) = codes "call" ∷ thread_name thread ∷ command_words command
 line_words (Do thread command) = codes "do" ∷ thread_name thread ∷ command_words command
+line_words (Finish thread) = codes "finish" ∷ thread_name thread ∷ []
+line_words (Open thread) = codes "open" ∷ thread_name thread ∷ []
+line_words (Stray thread addr word) = codes "stray" ∷ thread_name thread ∷ decimal addr ∷ decimal word ∷ []
 
--- What the lines above have declared: whether there are any, the processes, and the threads with their processes.
+-- What the lines above have declared: whether there are any, the processes, the threads with their processes, and
+-- the thread whose call was given by a `call` line with no `finish` line of the thread behind it.
 pub record Declared : Type 0 where
   pub begun : Bool
   pub processes : List ℕ
   pub threads : List (ℕ × ℕ)
+  pub calling : Option ℕ
 
 abbrev pub nothing_declared : Declared
-nothing_declared = record { begun = false; processes = []; threads = [] }
+nothing_declared = record { begun = false; processes = []; threads = []; calling = None }
+
+-- which call is open behind a `finish` line of the thread
+abbrev pub calling_behind : ℕ → Option ℕ → Option ℕ
+calling_behind thread None = None
+calling_behind thread (Some caller) = if caller == thread then None else Some caller
 
 abbrev pub declared : Declared → Line → Declared
-declared d (Mkfs pages) = record { begun = true; processes = d.processes; threads = d.threads }
-declared d (Process process cred) = record { begun = true; processes = d.processes ++ process ∷ []; threads = d.threads }
-declared d (Thread thread process) = record { begun = true; processes = d.processes; threads = d.threads ++ (thread, process) ∷ [] }
-declared d (Do thread command) = record { begun = true; processes = d.processes; threads = d.threads }
+declared d (Mkfs pages) = record { begun = true; processes = d.processes; threads = d.threads; calling = d.calling }
+declared d (Process process cred) = record { begun = true; processes = d.processes ++ process ∷ []; threads = d.threads; calling = d.calling }
+declared d (Thread thread process) = record { begun = true; processes = d.processes; threads = d.threads ++ (thread, process) ∷ []; calling = d.calling }
+declared d (Call thread command) = record { begun = true; processes = d.processes; threads = d.threads; calling = Some thread }
+declared d (Do thread command) = record { begun = true; processes = d.processes; threads = d.threads; calling = d.calling }
+declared d (Finish thread) = record { begun = true; processes = d.processes; threads = d.threads; calling = calling_behind thread d.calling }
+declared d (Open thread) = record { begun = true; processes = d.processes; threads = d.threads; calling = d.calling }
+declared d (Stray thread addr word) = record { begun = true; processes = d.processes; threads = d.threads; calling = d.calling }
 
--- The line may stand below such lines. The first is `mkfs`; then there is one process of uid and gid 0, with one
--- thread, and that thread's commands.
+-- the thread was declared
+abbrev pub IsThreadOf : Declared → ℕ → Type 0
+IsThreadOf d thread = Contains (map (λ t. t.0) d.threads) thread
+
+-- an address of a word in an image of the greatest size
+abbrev pub IsScriptAddress : ℕ → Type 0
+IsScriptAddress addr = (addr % 8 ≡ 0) × (addr ≤ 67108856)
+
+-- The line may stand below such lines. The first is `mkfs`, and no other. Each process and each thread is declared
+-- once, uid and gid are 0 for now. From a `call` line to the next `finish` line of its thread no further call is
+-- given, and that thread doesn't stray.
 abbrev pub MayStand : Declared → Line → Type 0
 MayStand d (Mkfs pages) = (d.begun ≡ false) × (64 ≤ pages) × (pages ≤ 16384)
-MayStand d (Process process cred) = (d.begun ≡ true) × (d.processes ≡ []) × (process < 64) × (cred.uid ≡ 0) × (cred.gid ≡ 0)
-MayStand d (Thread thread process) = (d.begun ≡ true) × (d.threads ≡ []) × (thread < 256) × Contains d.processes process
-MayStand d (Do thread command) = (d.begun ≡ true) × Contains (map (λ t. t.0) d.threads) thread × IsCommand command
+MayStand d (Process process cred) = (d.begun ≡ true) × (Contains d.processes process → ⊥) × (process < 64) × (cred.uid ≡ 0) × (cred.gid ≡ 0)
+MayStand d (Thread thread process) = (d.begun ≡ true) × (IsThreadOf d thread → ⊥) × (thread < 256) × Contains d.processes process
+MayStand d (Call thread command) = (d.begun ≡ true) × IsThreadOf d thread × IsCommand command × (d.calling ≡ None)
+MayStand d (Do thread command) = (d.begun ≡ true) × IsThreadOf d thread × IsCommand command × (d.calling ≡ None)
+MayStand d (Finish thread) = (d.begun ≡ true) × IsThreadOf d thread
+MayStand d (Open thread) = (d.begun ≡ true) × IsThreadOf d thread
+MayStand d (Stray thread addr word) = (d.begun ≡ true) × IsThreadOf d thread × (d.calling ≢ Some thread) × IsScriptAddress addr × (word ≤ 18446744073709551615)
 
 -- the greatest length of a text in bytes
 abbrev pub text_limit : ℕ

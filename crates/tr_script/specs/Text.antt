@@ -1,6 +1,9 @@
 -- What the entries of a trace print in brief. Numbers are decimal.
 use Rattle.std.specs.Prelude.{ℕ, ◌+◌, ◌/◌, ◌%◌, List, [], ◌∷◌, ◌++◌, length, flat_map, if◌then◌else◌, ◌==◌, nat_lt, codes}
 use Rattle.std.specs.Fmt.{decimal}
+use Rattle.tr_types.specs.declared.action.Answer.TheVariants as answer
+use Rattle.tr_types.specs.declared.action.FaultKind.{FaultKind}
+use Rattle.tr_types.specs.declared.action.FaultKind.TheVariants.{NotMapped, NotWritable, KeyDenied}
 use Rattle.tr_types.specs.declared.command.Kind.{Kind}
 use Rattle.tr_types.specs.declared.command.Kind.TheVariants.{File, Dir}
 use Rattle.tr_types.specs.declared.command.Reply.{Reply}
@@ -70,9 +73,22 @@ reply_text (reply.InUse thread) = codes "inuse" ++ then_text (thread_name thread
 reply_text (reply.Again times) = codes "again" ++ then_number times
 reply_text (reply.Damaged addr) = codes "damaged" ++ then_number addr
 
--- One entry: a reply is a line of its thread and the reply. What starts something, a call and its actions print nothing.
+abbrev pub fault_text : FaultKind → List ℕ
+fault_text NotMapped = codes "unmapped"
+fault_text NotWritable = codes "readonly"
+fault_text KeyDenied = codes "key"
+
+-- the line of a thread's stray store
+abbrev pub stray_text : ℕ → List ℕ → List ℕ
+stray_text thread answer = thread_name thread ++ codes " stray " ++ answer ++ 10 ∷ []
+
+-- One entry: a reply is a line of its thread and the reply, a stray store one of its thread and the answer. What starts
+-- something, a call and its actions print nothing. A store is done or faults, so that a stray one with another
+-- answer, which no machine gives, prints nothing either.
 abbrev pub brief_text : Entry → List ℕ
 brief_text (entry.Reply thread reply) = thread_name thread ++ then_text (reply_text reply) ++ 10 ∷ []
+brief_text (entry.Stray thread addr word answer.Done) = stray_text thread (codes "done")
+brief_text (entry.Stray thread addr word (answer.Fault kind)) = stray_text thread (codes "fault " ++ fault_text kind)
 brief_text e = []
 
 -- a whole trace

@@ -11,8 +11,16 @@ pub enum Line {
     Mkfs(u32),
     Process { process: u8, cred: Cred },
     Thread { thread: u16, process: u8 },
+    /// Gives the command. No turn is made.
+    Call { thread: u16, command: Command },
     /// Gives the command and makes turns until the call has ended.
     Do { thread: u16, command: Command },
+    /// Makes turns until the thread's call has ended.
+    Finish { thread: u16 },
+    /// Makes turns until the thread's call has opened a window or has ended.
+    Open { thread: u16 },
+    /// Stores a word at an address in bytes, outside every call.
+    Stray { thread: u16, addr: u64, word: u64 },
 }
 
 /// The lines of a script that are kept, in order.
