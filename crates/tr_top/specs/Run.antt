@@ -1,11 +1,13 @@
 -- What a run of a script is: a trace that follows the script's lines and that the machine allows, from the new image
--- that the script's first line makes, and whose entries are legal and keep the words and the tree together.
+-- that the script's first line makes, whose entries are legal and keep the words and the tree together, change words only
+-- as the rights permit, and leave at most one window open for each thread.
 use Rattle.std.specs.Prelude.{◌≡◌, ℕ, ◌≤◌, List, [], ◌∷◌, length, false}
 use Rattle.pm_words.specs.Memory.{present_values}
 use Rattle.tr_types.specs.Fold.{Each, state_after}
 use Rattle.tr_types.specs.NewImage.{new_image}
 use Rattle.tr_types.specs.Denotes.{Denotes}
 use Rattle.tr_types.specs.World.{World, world_of, stepped, MayCome, IsLegal}
+use Rattle.tr_types.specs.Windows.{LeavesWindows, IsConfined}
 use Rattle.tr_types.specs.declared.entry.Entry.{Entry}
 use Rattle.tr_script.specs.declared.script.Line.{Line}
 use Rattle.tr_script.specs.declared.script.Line.TheVariants.{Mkfs}
@@ -35,17 +37,19 @@ place_after lines trace = state_after followed (start_of lines) trace
 
 -- the words of the image after a trace: the present values, durable or not
 abbrev pub last_words : List Line → List Entry → List ℕ
-last_words lines trace = present_values (world_after lines trace).machine.words
+last_words lines trace = present_values (world_after lines trace).machine.bus.words
 
--- The entry is legal, and after it the words denote the tree, where nothing is lost. (Nothing is: the opening isn't, and
--- no entry that a script gives now makes it so.)
+-- the entry is legal, and after it the words denote the tree, where nothing is lost
 pub record IsRight (w : World) (e : Entry) : Type 0 where
   pub legal : w.lost ≡ false → IsLegal w e
-  pub denotes : (stepped w e).lost ≡ false → Denotes (stepped w e).machine.words (stepped w e).tree
+  pub denotes : (stepped w e).lost ≡ false → Denotes (stepped w e).machine.bus.words (stepped w e).tree
 
--- the trace is a front of a run of the script
+-- The trace is a front of a run of the script. Nothing is lost in it, since a stray store comes to a closed window.
 pub record IsRun (lines : List Line) (trace : List Entry) : Type 0 where
   pub follows : Follows lines trace
   pub allowed : Each stepped MayCome (world_of (opening lines)) trace
   pub right : Each stepped IsRight (world_of (opening lines)) trace
+  pub windows : Each stepped LeavesWindows (world_of (opening lines)) trace
+  pub confined : Each stepped IsConfined (world_of (opening lines)) trace
+  pub unlost : (world_after lines trace).lost ≡ false
   pub within : length trace ≤ trace_limit

@@ -1,37 +1,35 @@
 -- What the parts of a run keep.
-use Rattle.std.specs.Prelude.{◌≡◌, ◌≢◌, ℕ, ◌≤◌, List, [], ◌∷◌, ◌++◌, length, Option, Some, None, unwrap_or, Bool, true, false, Ok, Err}
+use Rattle.std.specs.Prelude.{◌≡◌, ◌≢◌, ℕ, ◌<◌, ◌≤◌, List, [], ◌∷◌, ◌++◌, length, Option, Some, None, unwrap_or, Bool, true, false, Ok, Err}
 use Rattle.std.specs.declared.result.Result.{Result}
 use Rattle.std.specs.Io.KnownBytes.{Appends}
-use Rattle.pm_words.specs.Word.{Word}
-use Rattle.pm_words.specs.Memory.{all_durable}
-use Rattle.zo_layout.specs.Layout.{page_at, root_control, root_page}
+use Rattle.tr_types.specs.Denotes.{dir_of}
+use Rattle.tr_types.specs.Fold.{state_after}
 use Rattle.tr_types.specs.KernelView.{pages_of}
-use Rattle.tr_types.specs.Machine.{Machine}
-use Rattle.tr_types.specs.Traces.{last_answer}
-use Rattle.tr_types.specs.World.{Idle}
-use Rattle.tr_types.specs.declared.entry.Entry.{Entry}
-use Rattle.tr_outside.specs.Causes.{Rose}
-use Rattle.tr_outside.specs.Whole.{AppendsFront}
-use Rattle.tr_types.specs.declared.entry.Entry.TheVariants as entry
-use Rattle.tr_types.specs.declared.entry.Mark.{Mark}
-use Rattle.tr_types.specs.declared.action.Action.{Action}
+use Rattle.tr_types.specs.Machine.{Bus, Machine, bus_over, pkru_of}
+use Rattle.tr_types.specs.Rights.{closed_pkru}
+use Rattle.tr_types.specs.Traces.{answer_at}
+use Rattle.tr_types.specs.Windows.{LeavesWindows}
+use Rattle.tr_types.specs.World.{World, Idle, stepped}
 use Rattle.tr_types.specs.declared.action.Answer.{Answer}
 use Rattle.tr_types.specs.declared.action.Answer.TheVariants.{Done}
-use Rattle.tr_types.specs.declared.command.Command.{Command}
-use Rattle.tr_types.specs.Fold.{state_after}
-use Rattle.tr_types.specs.Marks.{mark_of}
-use Rattle.zo_ops.specs.declared.call.Coffer.{Coffer}
-use Rattle.zo_ops.specs.declared.call.CallRun.{CallRun}
-use Rattle.tr_top.specs.declared.runner.Stop.{Stop}
-use Rattle.tr_top.specs.declared.runner.Stop.TheVariants.{Full, NoMemory, OutFailed}
+use Rattle.tr_types.specs.declared.entry.Entry.{Entry}
+use Rattle.tr_types.specs.declared.entry.Entry.TheVariants as entry
+use Rattle.bus_machine.specs.View.{MachineView}
+use Rattle.tr_outside.specs.Causes.{Rose}
+use Rattle.tr_outside.specs.Whole.{AppendsFront}
+use Rattle.tr_dispatch.specs.Sessions.{IsGrounded, SessionKnows}
+use Rattle.tr_dispatch.specs.declared.session.Session.{Session}
+use Rattle.tr_script.specs.Grammar.{Declared, declared, nothing_declared, MayStand}
+use Rattle.tr_script.specs.Text.{brief_text, brief_texts}
 use Rattle.tr_script.specs.declared.script.Line.{Line}
 use Rattle.tr_script.specs.declared.script.Line.TheVariants.{Mkfs}
-use Rattle.tr_script.specs.Grammar.{Declared, declared, nothing_declared, MayStand}
-use Rattle.tr_types.specs.Commands.{IsCommand}
-use Rattle.tr_top.specs.Along.{Place, IsAtEnd, rest}
-use Rattle.zo_ops.specs.Knows.{Ground, StageKnows}
-use Rattle.tr_script.specs.Text.{brief_text, brief_texts}
-use Rattle.tr_top.specs.Run.{IsRun, trace_limit, pages_made, opening, world_after, place_after}
+use Rattle.tr_top.specs.Along.{Place, Running, Turns, Resting, IsAtEnd, before, after_action}
+use Rattle.tr_top.specs.Run.{IsRun, IsRight, trace_limit, pages_made, opening, world_after, place_after}
+use Rattle.tr_top.specs.declared.runner.Stop.{Stop}
+use Rattle.tr_top.specs.declared.runner.Stop.TheVariants.{Full, NoMemory, OutFailed}
+use Rattle.tr_top.specs.declared.runner.Turned.{Turned}
+use Rattle.tr_top.specs.declared.runner.Turned.TheVariants.{Acted, Ended}
+use Rattle.tr_top.specs.declared.runner.RunningCall.{RunningCall}
 
 -- one entry was added to the trace, and its text handed to a sink
 abbrev pub Added : {T : Type 0} → Result T Stop → Entry → List Entry → List Entry → Option (List ℕ) → Option (List ℕ) → ℕ → ℕ → Type 0
@@ -61,88 +59,99 @@ pub record Goes {T : Type 0} (lines : List Line) (old new : List Entry) (taken n
   pub cause : result ≡ Err OutFailed → Rose before after
   pub full : result ≡ Err Full → IsFullAt lines new
 
--- the machine, and where the call is made, are those of the trace so far
-pub record IsTied (lines : List Line) (coffer : Coffer) (words : List Word) (trace : List Entry) : Type 0 where
+-- the entry is right where it comes, and leaves at most one window
+pub record IsSound (w : World) (e : Entry) : Type 0 where
+  pub right : IsRight w e
+  pub windows : LeavesWindows w e
+  pub unlost : (stepped w e).lost ≡ w.lost
+
+-- the machine is that of the trace so far, and works
+pub record IsTied (lines : List Line) (m : MachineView) (trace : List Entry) : Type 0 where
   pub run : IsRun lines trace
-  pub memory : words ≡ (world_after lines trace).machine.words
+  pub bus : m.bus ≡ (world_after lines trace).machine.bus
+  pub works : m.failed ≡ false
   pub least : 64 ≤ pages_made lines
   pub most : pages_made lines ≤ 16384
-  pub size : pages_of words ≡ pages_made lines
-  pub control : coffer.control.at ≡ page_at (root_control (pages_made lines))
-  pub dir : coffer.dir.at ≡ page_at (root_page (pages_made lines))
+  pub size : pages_of m.bus.words ≡ pages_made lines
 
--- between two calls: the ground of the next one, and no thread's call runs
-pub record IsQuiet (lines : List Line) (coffer : Coffer) (trace : List Entry) : Type 0 where
-  pub ground : Ground coffer (world_after lines trace).machine.words (world_after lines trace).tree
-  pub idle : (t : ℕ) → (world_after lines trace).phases t ≡ Idle
+-- a thread that has no call, and whose window is closed
+pub record IsAside (w : World) (thread : ℕ) : Type 0 where
+  pub idle : w.phases thread ≡ Idle
+  pub closed : pkru_of w.machine.bus thread ≡ closed_pkru
 
--- what the last action of a trace was answered; a call that begins is told that all is done
-abbrev pub answer_after : List Entry → Answer
-answer_after trace = unwrap_or (last_answer trace) Done
+-- no call runs: the words are the ground of the next one, and nobody holds the coffer
+pub record IsQuiet (w : World) (p : Place) : Type 0 where
+  pub ground : IsGrounded w.machine.bus.words w.tree
+  pub unheld : w.machine.bus.holders ≡ []
+  pub aside : (t : ℕ) → IsAside w t
+  pub running : p.running ≡ None
 
--- between two actions of a thread's call: it knows what its stage asks for with the last answer, and no other call runs
-pub record IsAtStage (lines : List Line) (trace : List Entry) (thread : ℕ) (call : CallRun) : Type 0 where
-  pub valid : IsCommand call.command.now
-  pub knows : StageKnows call.coffer call.command.now call.stage (answer_after trace) (world_after lines trace).machine.words (world_after lines trace).tree ((world_after lines trace).phases thread)
-  pub others : (t : ℕ) → t ≢ thread → (world_after lines trace).phases t ≡ Idle
+-- what a call waits for: the answer of its last action; a call that begins is told that all is done
+abbrev pub answer_to : List Entry → ℕ → Answer
+answer_to trace asked = unwrap_or (answer_at trace asked) Done
 
--- after a turn the call is between two actions, or has left the ground for the next one
-abbrev pub IsTurned : Bool → List Line → Coffer → List Entry → ℕ → CallRun → Type 0
-IsTurned true lines coffer trace thread call = IsAtStage lines trace thread call
-IsTurned false lines coffer trace thread call = IsQuiet lines coffer trace
+-- a call is between two of its turns: it knows what its stage asks for with the answer that it gets next, and all other
+-- threads stand aside
+pub record IsAtTurn (w : World) (p : Place) (trace : List Entry) (call : RunningCall) : Type 0 where
+  pub asked : call.asked < length trace
+  pub knows : SessionKnows call.session (answer_to trace call.asked) w
+  pub others : (t : ℕ) → t ≢ call.session.thread → IsAside w t
+  pub running : p.running ≡ Some (record { thread = call.session.thread; command = call.session.command.now })
+  pub dir : p.dir ≡ dir_of w.machine.bus.words
+
+abbrev pub StandsAs : World → Place → List Entry → Option RunningCall → Type 0
+StandsAs w p trace None = IsQuiet w p
+StandsAs w p trace (Some call) = IsAtTurn w p trace call
+
+-- how a call stands after a trace, if one runs
+abbrev pub Stands : List Line → List Entry → Option RunningCall → Type 0
+Stands lines trace call = StandsAs (world_after lines trace) (place_after lines trace) trace call
+
+-- after its turn a call is between two turns, or has left the ground for the next one
+abbrev pub StandsTurned : Turned → List Line → List Entry → RunningCall → Type 0
+StandsTurned (Acted mark) lines trace call = Stands lines trace (Some call)
+StandsTurned Ended lines trace call = Stands lines trace None
+
+-- where the script stands after a turn
+abbrev pub TurnsTo : Turned → Place → Place → Type 0
+TurnsTo (Acted mark) old new = new ≡ after_action old.turns mark old
+TurnsTo Ended old new = new ≡ before old.left None old.dir
+
+abbrev pub AreDue : Turns → Type 0
+AreDue Resting = ⊥
+AreDue turns = Unit {0}
 
 -- who lives on the machine is as before, and an entry has come
 pub record WhoStays (old new : Machine) : Type 0 where
-  pub processes : new.processes ≡ old.processes
-  pub threads : new.threads ≡ old.threads
+  pub processes : new.bus.processes ≡ old.bus.processes
+  pub threads : new.bus.threads ≡ old.bus.threads
   pub begun : new.begun ≡ true
 
--- the machine has started what the lines so far have declared, and is untouched where there are none
-pub record IsLike (lines : List Line) (m : Machine) (d : Declared) : Type 0 where
-  pub processes : m.processes ≡ d.processes
-  pub threads : m.threads ≡ d.threads
+-- The machine has started what the lines so far have declared, and is untouched where there are none. A call that runs
+-- is that of the thread whose `call` line has had no `finish` line.
+pub record IsLike (lines : List Line) (m : Machine) (p : Place) (d : Declared) : Type 0 where
+  pub processes : m.bus.processes ≡ d.processes
+  pub threads : m.bus.threads ≡ d.threads
   pub begun : m.begun ≡ d.begun
-  pub untouched : m.begun ≡ false → m.words ≡ all_durable (opening lines)
+  pub untouched : m.begun ≡ false → m.bus ≡ bus_over (opening lines)
+  pub dir : m.begun ≡ true → p.dir ≡ dir_of m.bus.words
+  pub calling : (r : Running) → p.running ≡ Some r → d.calling ≡ Some r.thread
 
--- an entry that is no action changes no word
-abbrev pub IsStill : Entry → Type 0
-IsStill (entry.Act thread now mark action answer) = ⊥
-IsStill e = Unit {0}
-
--- an action of the running call, with its mark
-abbrev pub IsActionAt : Place → ℕ → Mark → Action → Type 0
-IsActionAt p thread mark action = (command : Command) × (p.running ≡ Some (record { thread = thread; command = command })) × (mark ≡ mark_of p.dir command action)
-
--- the call that runs at this place is this one
-pub record IsCallOf (p : Place) (coffer : Coffer) (thread : ℕ) (call : CallRun) : Type 0 where
-  pub running : p.running ≡ Some (record { thread = thread; command = call.command.now })
-  pub dir : p.dir ≡ coffer.dir.at
-  pub same_coffer : call.coffer ≡ coffer
-
--- the call that ran has ended, and the place is the same but for that
-pub record IsAnsweredAt (old new : Place) : Type 0 where
-  pub left : new.left ≡ rest old.left
-  pub running : new.running ≡ None
-  pub dir : new.dir ≡ old.dir
-
--- a turn goes on with the call, or ends it
-abbrev pub TurnsTo : Bool → Place → Place → Type 0
-TurnsTo true old new = new ≡ old
-TurnsTo false old new = new ≡ record { left = old.left; running = None; dir = old.dir }
+-- what lines declare
+abbrev pub declared_by : List Line → Declared
+declared_by lines = state_after declared nothing_declared lines
 
 -- the line is the next of the script, and may stand there
-pub record IsNextLine (lines : List Line) (trace : List Entry) (coffer : Coffer) (line : Line) : Type 0 where
-  pub before : List Line
-  pub left : (place_after lines trace).left ≡ line ∷ rest (place_after lines trace).left
-  pub running : (place_after lines trace).running ≡ None
-  pub dir : (state_after declared nothing_declared before).begun ≡ true → (place_after lines trace).dir ≡ coffer.dir.at
-  pub like : IsLike lines (world_after lines trace).machine (state_after declared nothing_declared before)
-  pub stands : MayStand (state_after declared nothing_declared before) line
-  pub first : (state_after declared nothing_declared before).begun ≡ false → (pages : ℕ) → line ≡ Mkfs pages → pages ≡ pages_made lines
+pub record IsNextLine (lines : List Line) (trace : List Entry) (line : Line) : Type 0 where
+  pub above : List Line
+  pub below : List Line
+  pub place : place_after lines trace ≡ before (line ∷ below) (place_after lines trace).running (place_after lines trace).dir
+  pub like : IsLike lines (world_after lines trace).machine (place_after lines trace) (declared_by above)
+  pub stands : MayStand (declared_by above) line
+  pub first : (declared_by above).begun ≡ false → (pages : ℕ) → line ≡ Mkfs pages → pages ≡ pages_made lines
 
--- the line is done: the next ones are left, no call runs, and what it declares has been started
-pub record Passes (lines : List Line) (old new : List Entry) (coffer : Coffer) (line : Line) : Type 0 where
-  pub left : (place_after lines new).left ≡ rest (place_after lines old).left
-  pub running : (place_after lines new).running ≡ None
-  pub dir : (place_after lines new).dir ≡ coffer.dir.at
-  pub like : (d : Declared) → IsLike lines (world_after lines old).machine d → IsLike lines (world_after lines new).machine (declared d line)
+-- the line is done: the script stands before the next ones, and what it declares has been started
+pub record Passes (lines : List Line) (old new : List Entry) (line : Line) : Type 0 where
+  pub place : (below : List Line) → place_after lines old ≡ before (line ∷ below) (place_after lines old).running (place_after lines old).dir
+      → place_after lines new ≡ before below (place_after lines new).running (place_after lines new).dir
+  pub like : (d : Declared) → MayStand d line → IsLike lines (world_after lines old).machine (place_after lines old) d → IsLike lines (world_after lines new).machine (place_after lines new) (declared d line)

@@ -1,102 +1,43 @@
 // Runs a script line by line: each entry is put into the trace, and its text handed to `out`, as soon as it stands.
-ghost use Rattle.std.specs.Prelude.{◌≡◌, ◌+◌, ◌≤◌, ◌<◌, [], ◌∷◌, ◌++◌, length, IfOk, OnOk, MatchResult};
+ghost use Rattle.std.specs.Prelude.{◌≡◌, ◌+◌, ◌≤◌, ◌<◌, List, [], ◌∷◌, ◌++◌, length, None, Some, IfOk, OnOk, MatchOption};
 ghost use Rattle.pm_words.specs.Memory.{present_values};
 ghost use Rattle.tr_types.specs.declared.action.Answer.{Answer};
-ghost use Rattle.tr_types.specs.Fold.{Each};
-ghost use Rattle.zo_layout.specs.Layout.{page_at, root_control, root_page};
-ghost use Rattle.tr_types.specs.Machine.{IsThread, Answers};
-ghost use Rattle.tr_types.specs.World.{MayCome};
-ghost use Rattle.tr_top.specs.declared.runner.Stop.TheVariants.{NoMemory, OutFailed};
-ghost use Rattle.tr_script.specs.Grammar.{MayStand, declared, nothing_declared};
+ghost use Rattle.tr_types.specs.declared.entry.Entry.TheVariants as entry;
 ghost use Rattle.tr_types.specs.Commands.{IsCommand};
+ghost use Rattle.tr_types.specs.Fold.{Each};
+ghost use Rattle.tr_types.specs.Machine.{IsThread, IsBuilt, Answers};
+ghost use Rattle.tr_types.specs.World.{MayCome, stepped};
+ghost use Rattle.tr_script.specs.Grammar.{MayStand, declared, nothing_declared};
+ghost use Rattle.tr_script.specs.declared.script.Line.{Line};
+ghost use Rattle.tr_script.specs.declared.script.Line.TheVariants as line;
 ghost use Rattle.tr_top.specs.Along.{MayFollow, IsAtEnd};
-ghost use Rattle.zo_ops.specs.Calls.{IsCallAction};
-ghost use Rattle.tr_top.specs.Run.{IsRight, pages_made, world_after, place_after};
-ghost use Rattle.tr_top.specs.Running.{Added, Goes, IsTied, IsQuiet, IsAtStage, IsTurned, WhoStays, IsStill, IsNextLine, Passes, IsAnsweredAt, IsCallOf, TurnsTo, IsActionAt};
+ghost use Rattle.tr_top.specs.Run.{pages_made, world_after, place_after};
+ghost use Rattle.tr_top.specs.Running.{Goes, IsTied, IsSound, Stands, StandsTurned, TurnsTo, AreDue, WhoStays, IsNextLine, Passes, IsCallGiven, IsStart, IsBefore, IsOfThread};
 
-use crate::machine::Machine;
+use crate::log::{Log, Stop};
 use crate::new_image::new_image;
-use pm_words::Image;
+use bus_machine::Machine;
+use pm_words::{Image, Words};
 use std::alloc::{AllocError, Global};
-use thiserror::Error;
-use tr_outside::{Sink, WriteFault, write_all};
-use tr_script::{Line, Script, append_brief_text};
-use zo_layout::{page_at, root_control, root_page};
-use tr_types::{Action, Answer, Command, Entry, Mark, Trace};
-use zo_ops::{Addr, CallRun, CallStep, Coffer};
+use tr_dispatch::{Session, SessionStep};
+use tr_outside::Sink;
+use tr_script::{Line, Script};
+use tr_types::{Action, Answer, Command, Cred, Entry, Mark, Trace};
 
-/// The greatest number of entries of a trace.
-const TRACE_LIMIT: usize = 4_194_304;
-
-/// Why a run stops before its end.
-#[derive(Clone, Copy, Debug, PartialEq, Eq, Error)]
-pub(crate) enum Stop {
-    /// The trace has no room for the entry that is due.
-    #[error("the trace is full")]
-    Full,
-    #[error("no memory")]
-    NoMemory,
-    /// `out` failed.
-    #[error("a write failed")]
-    OutFailed,
-}
-
-impl From<AllocError> for Stop {
-    ghost from_gives = { λ _ stop. stop ≡ NoMemory };
-
-    fn from(_: AllocError) -> Stop {
-        Stop::NoMemory
-    }
-}
-
-impl From<WriteFault> for Stop {
-    ghost from_gives = { λ _ stop. stop ≡ OutFailed };
-
-    fn from(_: WriteFault) -> Stop {
-        Stop::OutFailed
-    }
-}
-
-/// The trace so far, and room for the text of an entry.
+/// A call that runs.
 #[derive(Debug, Drop)]
-pub(crate) struct Log {
-    trace: Trace,
-    text: Vec<u8>,
+pub(crate) struct RunningCall<'a> {
+    session: Session<'a>,
+    /// Where in the trace the entry stands whose answer the call gets next.
+    asked: usize,
 }
 
-impl Log {
-    fn new(alloc: Global) -> Log
-        ensures { result.trace ≡ [] }
-    {
-        Log {
-            trace: Trace::new(alloc),
-            text: Vec::new(alloc),
-        }
-    }
-
-    /// Whether a further entry may come.
-    fn check_room(&self) -> Result<(), Stop>
-        ensures { MatchResult result (λ _. length self.now.trace < 4194304)
-            (λ stop. (stop ≡ Stop.Full) × (4194304 ≤ length self.now.trace)) }
-    {
-        if self.trace.len() >= TRACE_LIMIT {
-            return Err(Stop::Full);
-        }
-        Ok(())
-    }
-
-    /// Puts an entry into the trace, and hands its text to `out` in one piece.
-    fn add<O: Sink>(&mut self, out: &mut O, entry: Entry) -> Result<(), Stop>
-        ensures added { Added result entry self.old.trace self.new.trace
-            (O.written out.old) (O.written out.new) (O.faults out.old) (O.faults out.new) }
-        ensures later { O.faults out.old ≤ O.faults out.new }
-    {
-        self.text.clear();
-        append_brief_text(&mut self.text, &entry)?;
-        self.trace.push(entry)?;
-        write_all(out, &self.text)?;
-        Ok(())
-    }
+/// What a turn of a call was.
+#[derive(Clone, Copy, Debug, PartialEq, Eq)]
+enum Turned {
+    Acted(Mark),
+    /// The reply.
+    Ended,
 }
 
 /// A run of a script.
@@ -104,9 +45,9 @@ impl Log {
 pub(crate) struct Runner<'a> {
     alloc: Global,
     script: &'a Script,
-    coffer: Coffer,
     machine: Machine,
     log: Log,
+    running: Option<RunningCall<'a>>,
 }
 
 impl<'a> Runner<'a> {
@@ -117,29 +58,29 @@ impl<'a> Runner<'a> {
         requires most { pages ≤ 16384 }
         ensures script { IfOk result (λ r. r.script.now ≡ script.now) }
         ensures trace { IfOk result (λ r. r.log.trace ≡ []) }
-        ensures tied { IfOk result (λ r. IsTied script.now r.coffer r.machine r.log.trace) }
-        ensures quiet { IfOk result (λ r. IsQuiet script.now r.coffer r.log.trace) }
+        ensures tied { IfOk result (λ r. IsTied script.now r.machine r.log.trace) }
+        ensures stands { IfOk result (λ r. Stands script.now r.log.trace r.running) }
     {
+        let words = Words::of_image(alloc, new_image(alloc, pages)?)?;
         Ok(Runner {
             alloc,
             script,
-            coffer: root_coffer(pages),
-            machine: Machine::open(alloc, pages, new_image(alloc, pages)?)?,
+            machine: Machine::open(alloc, words)?,
             log: Log::new(alloc),
+            running: None,
         })
     }
 
     /// Runs all lines.
     pub fn run<O: Sink>(&mut self, out: &mut O) -> Result<(), Stop>
-        requires tied { IsTied self.old.script.now self.old.coffer self.old.machine self.old.log.trace }
-        requires quiet { IsQuiet self.old.script.now self.old.coffer self.old.log.trace }
+        requires tied { IsTied self.old.script.now self.old.machine self.old.log.trace }
+        requires stands { Stands self.old.script.now self.old.log.trace self.old.running }
         requires fresh { self.old.log.trace ≡ [] }
         requires orderly { Each declared MayStand nothing_declared self.old.script.now }
         ensures script { self.new.script.now ≡ self.old.script.now }
         ensures goes { Goes self.old.script.now self.old.log.trace self.new.log.trace
             (O.written out.old) (O.written out.new) (O.faults out.old) (O.faults out.new) result }
-        ensures tied { OnOk result
-            (IsTied self.old.script.now self.new.coffer self.new.machine self.new.log.trace) }
+        ensures tied { OnOk result (IsTied self.old.script.now self.new.machine self.new.log.trace) }
         ensures ended { OnOk result (IsAtEnd (place_after self.old.script.now self.new.log.trace)) }
     {
         let script = self.script;
@@ -150,162 +91,266 @@ impl<'a> Runner<'a> {
     }
 
     // Gives the entries of a line.
-    fn follow<O: Sink>(&mut self, out: &mut O, line: &Line) -> Result<(), Stop>
-        requires tied { IsTied self.old.script.now self.old.coffer self.old.machine self.old.log.trace }
-        requires quiet { IsQuiet self.old.script.now self.old.coffer self.old.log.trace }
-        requires next { IsNextLine self.old.script.now self.old.log.trace self.old.coffer line.now }
-        ensures same { (self.new.script.now ≡ self.old.script.now) × (self.new.coffer ≡ self.old.coffer) }
+    fn follow<O: Sink>(&mut self, out: &mut O, line: &'a Line) -> Result<(), Stop>
+        requires tied { IsTied self.old.script.now self.old.machine self.old.log.trace }
+        requires stands { Stands self.old.script.now self.old.log.trace self.old.running }
+        requires next { IsNextLine self.old.script.now self.old.log.trace line.now }
+        ensures same { self.new.script.now ≡ self.old.script.now }
         ensures goes { Goes self.old.script.now self.old.log.trace self.new.log.trace
             (O.written out.old) (O.written out.new) (O.faults out.old) (O.faults out.new) result }
-        ensures tied { OnOk result
-            (IsTied self.old.script.now self.new.coffer self.new.machine self.new.log.trace) }
-        ensures quiet { OnOk result (IsQuiet self.old.script.now self.new.coffer self.new.log.trace) }
-        ensures passed { OnOk result
-            (Passes self.old.script.now self.old.log.trace self.new.log.trace self.old.coffer line.now) }
+        ensures tied { OnOk result (IsTied self.old.script.now self.new.machine self.new.log.trace) }
+        ensures stands { OnOk result (Stands self.old.script.now self.new.log.trace self.new.running) }
+        ensures passed { OnOk result (Passes self.old.script.now self.old.log.trace self.new.log.trace line.now) }
     {
         match line {
-            Line::Mkfs(pages) => self.start(out, Entry::Mkfs(*pages)),
-            Line::Process { process, cred } => self.start(
-                out,
-                Entry::Process {
-                    process: *process,
-                    cred: *cred,
-                },
-            ),
-            Line::Thread { thread, process } => self.start(
-                out,
-                Entry::Thread {
-                    thread: *thread,
-                    process: *process,
-                },
-            ),
-            Line::Do { thread, command } => self.call(out, *thread, command),
+            Line::Mkfs(pages) => self.make_image(out, *pages),
+            Line::Process { process, cred } => self.start_process(out, *process, *cred),
+            Line::Thread { thread, process } => self.start_thread(out, *thread, *process),
+            Line::Call { thread, command } => self.begin_call(out, *thread, command),
+            Line::Do { thread, command } => {
+                self.begin_call(out, *thread, command)?;
+                self.finish(out, *thread)
+            }
+            Line::Finish { thread } => self.finish(out, *thread),
+            Line::Open { thread } => self.open(out, *thread),
+            Line::Stray { thread, addr, word } => self.stray(out, *thread, *addr, *word),
         }
     }
 
-    // Gives an entry that changes no word.
-    fn start<O: Sink>(&mut self, out: &mut O, entry: Entry) -> Result<(), Stop>
-        requires tied { IsTied self.old.script.now self.old.coffer self.old.machine self.old.log.trace }
+    // Gives an entry that leaves the machine as it is.
+    fn give<O: Sink>(&mut self, out: &mut O, entry: Entry) -> Result<(), Stop>
+        requires tied { IsTied self.old.script.now self.old.machine self.old.log.trace }
         requires next { MayFollow (place_after self.old.script.now self.old.log.trace) entry }
         requires allowed { MayCome (world_after self.old.script.now self.old.log.trace) entry }
-        requires right { IsRight (world_after self.old.script.now self.old.log.trace) entry }
-        requires still { IsStill entry }
-        ensures same { (self.new.script.now ≡ self.old.script.now) × (self.new.coffer ≡ self.old.coffer) }
+        requires sound { IsSound (world_after self.old.script.now self.old.log.trace) entry }
+        requires still { (stepped (world_after self.old.script.now self.old.log.trace) entry).machine.bus
+            ≡ (world_after self.old.script.now self.old.log.trace).machine.bus }
+        ensures same { self.new.script.now ≡ self.old.script.now }
+        ensures running { self.new.running ≡ self.old.running }
         ensures goes { Goes self.old.script.now self.old.log.trace self.new.log.trace
             (O.written out.old) (O.written out.new) (O.faults out.old) (O.faults out.new) result }
-        ensures tied { OnOk result
-            (IsTied self.old.script.now self.new.coffer self.new.machine self.new.log.trace) }
+        ensures tied { OnOk result (IsTied self.old.script.now self.new.machine self.new.log.trace) }
         ensures added { OnOk result (self.new.log.trace ≡ self.old.log.trace ++ entry ∷ []) }
     {
         self.log.check_room()?;
         self.log.add(out, entry)
     }
 
-    // Gives a call, and makes its turns until it has ended.
-    fn call<O: Sink>(&mut self, out: &mut O, thread: u16, command: &Command) -> Result<(), Stop>
-        requires tied { IsTied self.old.script.now self.old.coffer self.old.machine self.old.log.trace }
-        requires quiet { IsQuiet self.old.script.now self.old.coffer self.old.log.trace }
-        requires next { MayFollow (place_after self.old.script.now self.old.log.trace)
-            (Entry.Call thread command.now) }
-        requires dir { (place_after self.old.script.now self.old.log.trace).dir ≡ self.old.coffer.dir.at }
-        requires thread { IsThread (world_after self.old.script.now self.old.log.trace).machine thread }
-        requires valid { IsCommand command.now }
-        ensures same { (self.new.script.now ≡ self.old.script.now) × (self.new.coffer ≡ self.old.coffer) }
+    // The image was made when the machine was opened.
+    fn make_image<O: Sink>(&mut self, out: &mut O, pages: u32) -> Result<(), Stop>
+        requires tied { IsTied self.old.script.now self.old.machine self.old.log.trace }
+        requires stands { Stands self.old.script.now self.old.log.trace self.old.running }
+        requires next { IsNextLine self.old.script.now self.old.log.trace (line.Mkfs pages) }
+        ensures same { self.new.script.now ≡ self.old.script.now }
         ensures goes { Goes self.old.script.now self.old.log.trace self.new.log.trace
             (O.written out.old) (O.written out.new) (O.faults out.old) (O.faults out.new) result }
-        ensures tied { OnOk result
-            (IsTied self.old.script.now self.new.coffer self.new.machine self.new.log.trace) }
-        ensures quiet { OnOk result (IsQuiet self.old.script.now self.new.coffer self.new.log.trace) }
-        ensures place { OnOk result (IsAnsweredAt
-            (place_after self.old.script.now self.old.log.trace)
-            (place_after self.old.script.now self.new.log.trace)) }
-        ensures who { OnOk result (WhoStays
-            (world_after self.old.script.now self.old.log.trace).machine
-            (world_after self.old.script.now self.new.log.trace).machine) }
+        ensures tied { OnOk result (IsTied self.old.script.now self.new.machine self.new.log.trace) }
+        ensures stands { OnOk result (Stands self.old.script.now self.new.log.trace self.new.running) }
+        ensures passed { OnOk result (Passes self.old.script.now self.old.log.trace self.new.log.trace (line.Mkfs pages)) }
+    {
+        self.give(out, Entry::Mkfs(pages))
+    }
+
+    fn start_process<O: Sink>(&mut self, out: &mut O, process: u8, cred: Cred) -> Result<(), Stop>
+        requires tied { IsTied self.old.script.now self.old.machine self.old.log.trace }
+        requires stands { Stands self.old.script.now self.old.log.trace self.old.running }
+        requires next { IsNextLine self.old.script.now self.old.log.trace (line.Process process cred) }
+        ensures same { self.new.script.now ≡ self.old.script.now }
+        ensures goes { Goes self.old.script.now self.old.log.trace self.new.log.trace
+            (O.written out.old) (O.written out.new) (O.faults out.old) (O.faults out.new) result }
+        ensures tied { OnOk result (IsTied self.old.script.now self.new.machine self.new.log.trace) }
+        ensures stands { OnOk result (Stands self.old.script.now self.new.log.trace self.new.running) }
+        ensures passed { OnOk result (Passes self.old.script.now self.old.log.trace self.new.log.trace (line.Process process cred)) }
+    {
+        self.log.check_room()?;
+        self.machine.start_process(process, cred)?;
+        self.log.add(out, Entry::Process { process, cred })
+    }
+
+    fn start_thread<O: Sink>(&mut self, out: &mut O, thread: u16, process: u8) -> Result<(), Stop>
+        requires tied { IsTied self.old.script.now self.old.machine self.old.log.trace }
+        requires stands { Stands self.old.script.now self.old.log.trace self.old.running }
+        requires next { IsNextLine self.old.script.now self.old.log.trace (line.Thread thread process) }
+        ensures same { self.new.script.now ≡ self.old.script.now }
+        ensures goes { Goes self.old.script.now self.old.log.trace self.new.log.trace
+            (O.written out.old) (O.written out.new) (O.faults out.old) (O.faults out.new) result }
+        ensures tied { OnOk result (IsTied self.old.script.now self.new.machine self.new.log.trace) }
+        ensures stands { OnOk result (Stands self.old.script.now self.new.log.trace self.new.running) }
+        ensures passed { OnOk result (Passes self.old.script.now self.old.log.trace self.new.log.trace (line.Thread thread process)) }
+    {
+        self.log.check_room()?;
+        self.machine.start_thread(thread, process)?;
+        self.log.add(out, Entry::Thread { thread, process })
+    }
+
+    // A store that the thread's program didn't mean.
+    fn stray<O: Sink>(&mut self, out: &mut O, thread: u16, addr: u64, word: u64) -> Result<(), Stop>
+        requires tied { IsTied self.old.script.now self.old.machine self.old.log.trace }
+        requires stands { Stands self.old.script.now self.old.log.trace self.old.running }
+        requires next { IsNextLine self.old.script.now self.old.log.trace (line.Stray thread addr word) }
+        ensures same { self.new.script.now ≡ self.old.script.now }
+        ensures goes { Goes self.old.script.now self.old.log.trace self.new.log.trace
+            (O.written out.old) (O.written out.new) (O.faults out.old) (O.faults out.new) result }
+        ensures tied { OnOk result (IsTied self.old.script.now self.new.machine self.new.log.trace) }
+        ensures stands { OnOk result (Stands self.old.script.now self.new.log.trace self.new.running) }
+        ensures passed { OnOk result (Passes self.old.script.now self.old.log.trace self.new.log.trace (line.Stray thread addr word)) }
+    {
+        self.log.check_room()?;
+        let answer = self.machine.stray(thread, addr, word)?;
+        self.log.add(
+            out,
+            Entry::Stray {
+                thread,
+                addr,
+                word,
+                answer,
+            },
+        )
+    }
+
+    // Gives a call. No turn is made.
+    fn begin_call<O: Sink>(&mut self, out: &mut O, thread: u16, command: &'a Command) -> Result<(), Stop>
+        requires tied { IsTied self.old.script.now self.old.machine self.old.log.trace }
+        requires stands { Stands self.old.script.now self.old.log.trace self.old.running }
+        requires given { IsCallGiven self.old.script.now self.old.log.trace thread command.now }
+        ensures same { self.new.script.now ≡ self.old.script.now }
+        ensures goes { Goes self.old.script.now self.old.log.trace self.new.log.trace
+            (O.written out.old) (O.written out.new) (O.faults out.old) (O.faults out.new) result }
+        ensures tied { OnOk result (IsTied self.old.script.now self.new.machine self.new.log.trace) }
+        ensures stands { OnOk result (Stands self.old.script.now self.new.log.trace self.new.running) }
+        ensures added { OnOk result (self.new.log.trace ≡ self.old.log.trace ++ entry.Call thread command.now ∷ []) }
     {
         let told = command.copy(self.alloc)?;
-        self.start(
+        let asked = self.log.trace.len();
+        self.give(
             out,
             Entry::Call {
                 thread,
                 command: told,
             },
         )?;
-        let mut call = CallRun::begin(self.coffer, command);
-        loop {
-            if !self.turn(out, thread, &mut call)? {
-                return Ok(());
+        self.running = Some(RunningCall {
+            session: Session::begin(thread, command),
+            asked,
+        });
+        Ok(())
+    }
+
+    // Takes the call that runs, where it is this thread's.
+    fn take_call(&mut self, thread: u16) -> Option<RunningCall<'a>>
+        ensures same { (self.new.script.now ≡ self.old.script.now) × (self.new.machine ≡ self.old.machine) × (self.new.log ≡ self.old.log) }
+        ensures taken { MatchOption result
+            ((IsOfThread thread self.old.running → ⊥) × (self.new.running ≡ self.old.running))
+            (λ call. (self.old.running ≡ Some call) × (call.session.thread ≡ thread) × (self.new.running ≡ None)) }
+    {
+        match self.running.take() {
+            Some(call) if call.session.thread() == thread => Some(call),
+            other => {
+                self.running = other;
+                None
             }
         }
     }
 
-    // Makes one turn of a call: an action, or the reply. Answers whether the call goes on.
-    fn turn<O: Sink>(
-        &mut self,
-        out: &mut O,
-        thread: u16,
-        call: &mut CallRun<'_>,
-    ) -> Result<bool, Stop>
-        requires tied { IsTied self.old.script.now self.old.coffer self.old.machine self.old.log.trace }
-        requires runs { IsCallOf (place_after self.old.script.now self.old.log.trace)
-            self.old.coffer thread call.old }
-        requires knows { IsAtStage self.old.script.now self.old.log.trace thread call.old }
-        requires thread { IsThread (world_after self.old.script.now self.old.log.trace).machine thread }
-        ensures same { (self.new.script.now ≡ self.old.script.now) × (self.new.coffer ≡ self.old.coffer) }
-        ensures call { (call.new.coffer ≡ call.old.coffer) × (call.new.command.now ≡ call.old.command.now) }
+    // Makes turns of the thread's call, if it has one, until it has ended.
+    fn finish<O: Sink>(&mut self, out: &mut O, thread: u16) -> Result<(), Stop>
+        requires tied { IsTied self.old.script.now self.old.machine self.old.log.trace }
+        requires stands { Stands self.old.script.now self.old.log.trace self.old.running }
+        requires next { IsBefore self.old.script.now self.old.log.trace (line.Finish thread) }
+        ensures same { self.new.script.now ≡ self.old.script.now }
         ensures goes { Goes self.old.script.now self.old.log.trace self.new.log.trace
             (O.written out.old) (O.written out.new) (O.faults out.old) (O.faults out.new) result }
-        ensures tied { OnOk result
-            (IsTied self.old.script.now self.new.coffer self.new.machine self.new.log.trace) }
-        ensures turned { IfOk result (λ goes_on.
-            IsTurned goes_on self.old.script.now self.new.coffer self.new.log.trace thread call.new) }
-        ensures length { OnOk result
-            (length self.new.log.trace ≡ length self.old.log.trace + 1) }
+        ensures tied { OnOk result (IsTied self.old.script.now self.new.machine self.new.log.trace) }
+        ensures stands { OnOk result (Stands self.old.script.now self.new.log.trace self.new.running) }
+        ensures passed { OnOk result (Passes self.old.script.now self.old.log.trace self.new.log.trace (line.Finish thread)) }
+    {
+        let Some(mut call) = self.take_call(thread) else {
+            return Ok(());
+        };
+        while let Turned::Acted(_) = self.turn(out, &mut call)? {}
+        Ok(())
+    }
+
+    // Makes turns of the thread's call, if it has one, until it has opened a window or has ended.
+    fn open<O: Sink>(&mut self, out: &mut O, thread: u16) -> Result<(), Stop>
+        requires tied { IsTied self.old.script.now self.old.machine self.old.log.trace }
+        requires stands { Stands self.old.script.now self.old.log.trace self.old.running }
+        requires next { IsBefore self.old.script.now self.old.log.trace (line.Open thread) }
+        ensures same { self.new.script.now ≡ self.old.script.now }
+        ensures goes { Goes self.old.script.now self.old.log.trace self.new.log.trace
+            (O.written out.old) (O.written out.new) (O.faults out.old) (O.faults out.new) result }
+        ensures tied { OnOk result (IsTied self.old.script.now self.new.machine self.new.log.trace) }
+        ensures stands { OnOk result (Stands self.old.script.now self.new.log.trace self.new.running) }
+        ensures passed { OnOk result (Passes self.old.script.now self.old.log.trace self.new.log.trace (line.Open thread)) }
+    {
+        let Some(mut call) = self.take_call(thread) else {
+            return Ok(());
+        };
+        loop {
+            match self.turn(out, &mut call)? {
+                Turned::Acted(Mark::Open) => {
+                    self.running = Some(call);
+                    return Ok(());
+                }
+                Turned::Acted(_) => {}
+                Turned::Ended => return Ok(()),
+            }
+        }
+    }
+
+    // Makes one turn of a call: an action, or the reply.
+    fn turn<O: Sink>(&mut self, out: &mut O, call: &mut RunningCall<'a>) -> Result<Turned, Stop>
+        requires tied { IsTied self.old.script.now self.old.machine self.old.log.trace }
+        requires stands { Stands self.old.script.now self.old.log.trace (Some call.old) }
+        requires due { AreDue (place_after self.old.script.now self.old.log.trace).turns }
+        ensures same { self.new.script.now ≡ self.old.script.now }
+        ensures running { self.new.running ≡ self.old.running }
+        ensures call { (call.new.session.thread ≡ call.old.session.thread) × (call.new.session.command.now ≡ call.old.session.command.now) }
+        ensures goes { Goes self.old.script.now self.old.log.trace self.new.log.trace
+            (O.written out.old) (O.written out.new) (O.faults out.old) (O.faults out.new) result }
+        ensures tied { OnOk result (IsTied self.old.script.now self.new.machine self.new.log.trace) }
+        ensures stands { IfOk result (λ turned. StandsTurned turned self.old.script.now self.new.log.trace call.new) }
+        ensures place { IfOk result (λ turned. TurnsTo turned
+            (place_after self.old.script.now self.old.log.trace)
+            (place_after self.old.script.now self.new.log.trace)) }
         ensures who { OnOk result (WhoStays
             (world_after self.old.script.now self.old.log.trace).machine
             (world_after self.old.script.now self.new.log.trace).machine) }
-        ensures place { IfOk result (λ goes_on. TurnsTo goes_on
-            (place_after self.old.script.now self.old.log.trace)
-            (place_after self.old.script.now self.new.log.trace)) }
+        ensures length { OnOk result (length self.new.log.trace ≡ length self.old.log.trace + 1) }
     {
         self.log.check_room()?;
-        let answer = self.log.trace.last_answer().unwrap_or(&Answer::Done);
-        match call.next(self.alloc, answer)? {
-            CallStep::Act(mark, action) => {
+        let answer = self.log.trace.answer_at(call.asked).unwrap_or(&Answer::Done);
+        let thread = call.session.thread();
+        match call.session.next(self.alloc, answer)? {
+            SessionStep::Act(mark, action) => {
+                call.asked = self.log.trace.len();
                 self.act(out, thread, mark, action)?;
-                Ok(true)
+                Ok(Turned::Acted(mark))
             }
-            CallStep::Over(reply) => {
+            SessionStep::Over(reply) => {
                 self.log.add(out, Entry::Reply { thread, reply })?;
-                Ok(false)
+                Ok(Turned::Ended)
             }
         }
     }
 
     // Does an action, and gives its entry.
-    fn act<O: Sink>(
-        &mut self,
-        out: &mut O,
-        thread: u16,
-        mark: Mark,
-        action: Action,
-    ) -> Result<(), Stop>
-        requires tied { IsTied self.old.script.now self.old.coffer self.old.machine self.old.log.trace }
+    fn act<O: Sink>(&mut self, out: &mut O, thread: u16, mark: Mark, action: Action) -> Result<(), Stop>
+        requires tied { IsTied self.old.script.now self.old.machine self.old.log.trace }
         requires room { length self.old.log.trace < 4194304 }
-        requires thread { IsThread (world_after self.old.script.now self.old.log.trace).machine thread }
-        requires action { IsCallAction self.old.coffer.control.at action }
-        requires mark { IsActionAt (place_after self.old.script.now self.old.log.trace) thread mark action }
-        requires right { (answer : Answer) → Answers self.old.machine action answer →
-            IsRight (world_after self.old.script.now self.old.log.trace) (Entry.Act thread 0 mark action answer) }
-        ensures same { (self.new.script.now ≡ self.old.script.now) × (self.new.coffer ≡ self.old.coffer) }
+        requires built { IsBuilt action }
+        requires follows { (answer : Answer) → MayFollow (place_after self.old.script.now self.old.log.trace) (entry.Act thread 0 mark action answer) }
+        requires sound { (answer : Answer) → Answers (world_after self.old.script.now self.old.log.trace).machine.bus thread action answer →
+            IsSound (world_after self.old.script.now self.old.log.trace) (entry.Act thread 0 mark action answer) }
+        ensures same { self.new.script.now ≡ self.old.script.now }
+        ensures running { self.new.running ≡ self.old.running }
         ensures goes { Goes self.old.script.now self.old.log.trace self.new.log.trace
             (O.written out.old) (O.written out.new) (O.faults out.old) (O.faults out.new) result }
-        ensures tied { OnOk result
-            (IsTied self.old.script.now self.new.coffer self.new.machine self.new.log.trace) }
-        ensures added { OnOk result ((answer : Answer) × Answers self.old.machine action answer
-            × (self.new.log.trace ≡ self.old.log.trace ++ Entry.Act thread 0 mark action answer ∷ [])) }
+        ensures tied { OnOk result (IsTied self.old.script.now self.new.machine self.new.log.trace) }
+        ensures added { OnOk result ((answer : Answer) × Answers (world_after self.old.script.now self.old.log.trace).machine.bus thread action answer
+            × (self.new.log.trace ≡ self.old.log.trace ++ entry.Act thread 0 mark action answer ∷ [])) }
     {
-        let answer = self.machine.act(self.alloc, &action)?;
+        let answer = self.machine.act(thread, 0, &action)?;
         self.log.add(
             out,
             Entry::Act {
@@ -320,9 +365,9 @@ impl<'a> Runner<'a> {
 
     /// The words as they are now.
     pub fn image(&self) -> Result<Image, AllocError>
-        ensures { IfOk result (λ image. image ≡ present_values self.now.machine) }
+        ensures { IfOk result (λ image. image ≡ present_values self.now.machine.bus.words) }
     {
-        self.machine.image()
+        self.machine.words().image()
     }
 
     /// The trace of the run.
@@ -330,23 +375,6 @@ impl<'a> Runner<'a> {
         ensures { result ≡ self.entry.log.trace }
     {
         let Runner { log, .. } = self;
-        let Log { trace, text: _ } = log;
-        trace
-    }
-}
-
-// Where the root coffer stands in a new image.
-fn root_coffer(pages: u32) -> Coffer
-    requires { pages ≤ 16384 }
-    ensures control { result.control.at ≡ page_at (root_control pages) }
-    ensures dir { result.dir.at ≡ page_at (root_page pages) }
-{
-    Coffer {
-        control: Addr {
-            at: page_at(root_control(pages)),
-        },
-        dir: Addr {
-            at: page_at(root_page(pages)),
-        },
+        log.into_trace()
     }
 }

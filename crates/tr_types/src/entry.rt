@@ -157,7 +157,7 @@ impl Model for Trace {
 
 impl Trace {
     ghost use Rattle.std.specs.Option.{option_copied};
-    ghost use Rattle.tr_types.specs.Traces.{last_answer};
+    ghost use Rattle.tr_types.specs.Traces.{answer_at};
 
     pub fn new(alloc: Global) -> Trace
         ensures { result ≡ [] }
@@ -179,11 +179,11 @@ impl Trace {
         &self.entries
     }
 
-    /// What the last entry's action was answered, where it is an action of a call.
-    pub fn last_answer(&self) -> Option<&Answer>
-        ensures { option_copied result ≡ last_answer self.now }
+    /// What the action was answered that stands at this position, counted from 0, where it is an action of a call.
+    pub fn answer_at(&self, position: usize) -> Option<&Answer>
+        ensures { option_copied result ≡ answer_at self.now position }
     {
-        match self.entries.last() {
+        match self.entries.get(position) {
             Some(Entry::Act { answer, .. }) => Some(answer),
             _ => None,
         }
@@ -206,7 +206,7 @@ mod tests {
     #[test]
     fn a_trace_keeps_its_entries_in_order(rt: HostRuntime) -> Result<(), AllocError> {
         let mut trace = Trace::new(rt.alloc());
-        assert!(rt; trace.last_answer().is_none());
+        assert!(rt; trace.answer_at(0).is_none());
         trace.push(Entry::Act {
             thread: 0,
             now: 0,
@@ -214,9 +214,9 @@ mod tests {
             action: Action::Load(8),
             answer: Answer::Word(1),
         })?;
-        assert!(rt; matches!(trace.last_answer(), Some(Answer::Word(1))));
         trace.push(Entry::Mkfs(64))?;
-        assert!(rt; trace.last_answer().is_none());
+        assert!(rt; matches!(trace.answer_at(0), Some(Answer::Word(1))));
+        assert!(rt; trace.answer_at(1).is_none());
         assert_eq!(rt; trace.len(), 2);
         assert!(rt; matches!(trace.entries(), [Entry::Act { .. }, Entry::Mkfs(64)]));
         Ok(())
