@@ -3,33 +3,24 @@ use Rattle.std.proofs.Common.{◌≡◌, ℕ, ◌+◌, ◌*◌, ◌/◌, ◌≤�
 use Rattle.std.proofs.lemmas.List.FromFn.{length-map-range_with_len}
 use Rattle.std.specs.declared.result.Result.{Result}
 use Rattle.std.specs.Io.KnownBytes.{Appends}
-use Rattle.pm_words.specs.Word.{Word}
-use Rattle.pm_words.specs.Memory.{all_durable, present_values}
-use Rattle.pm_words.proofs.WordLemmas.{length_all_durable, present_all_durable}
-use Rattle.tr_types.specs.Fold.{state_after}
-use Rattle.zo_layout.specs.Layout.{page_at, root_control, root_page}
+use Rattle.pm_words.specs.Memory.{all_durable}
+use Rattle.pm_words.proofs.WordLemmas.{length_all_durable}
+use Rattle.tr_types.specs.KernelView.{pages_of}
 use Rattle.tr_types.specs.NewImage.{new_image, new_word}
-use Rattle.tr_types.specs.Machine.{Answers, IsThread}
+use Rattle.tr_types.specs.Machine.{Bus, bus_over}
 use Rattle.tr_types.specs.World.{World, stepped, MayCome, world_of}
-use Rattle.tr_types.specs.declared.action.Action.{Action}
-use Rattle.tr_types.specs.declared.action.Answer.{Answer}
 use Rattle.tr_types.specs.declared.entry.Entry.{Entry}
-use Rattle.tr_types.specs.declared.entry.Entry.TheVariants as entry
-use Rattle.tr_types.specs.declared.entry.Mark.{Mark}
-use Rattle.tr_types.specs.declared.command.Reply.{Reply}
 use Rattle.tr_types.proofs.FoldLemmas.{state_after_more, Each_more}
+use Rattle.bus_machine.specs.View.{MachineView}
 use Rattle.tr_outside.specs.Whole.{AppendsFront}
-use Rattle.zo_ops.specs.declared.call.Coffer.{Coffer}
-use Rattle.zo_ops.specs.declared.call.CallRun.{CallRun}
-use Rattle.tr_top.specs.declared.runner.Stop.{Stop}
-use Rattle.tr_top.specs.declared.runner.Stop.TheVariants.{Full, NoMemory, OutFailed}
 use Rattle.tr_script.specs.declared.script.Line.{Line}
-use Rattle.tr_script.specs.declared.script.Line.TheVariants.{Mkfs}
-use Rattle.tr_script.specs.Grammar.{declared, nothing_declared, MayStand}
-use Rattle.tr_top.specs.Along.{Place, Running, MayFollow, IsNext, IsAtEnd, followed, start_of}
 use Rattle.tr_script.specs.Text.{brief_text, brief_texts}
-use Rattle.tr_top.specs.Run.{IsRun, IsRight, pages_made, world_after, place_after, opening}
-use Rattle.tr_top.specs.Running.{Added, Goes, IsTied, IsFullAt, IsStill, IsActionAt, IsCallOf, IsNextLine}
+use Rattle.tr_top.specs.declared.log.Stop.{Stop}
+use Rattle.tr_top.specs.declared.log.Stop.TheVariants.{Full, NoMemory, OutFailed}
+use Rattle.tr_top.specs.Along.{Place, Turns, Resting, ToTheEnd, ToAnOpening, Running, MayFollow, IsNext, IsAtEnd, followed, start_of}
+use Rattle.tr_top.specs.Run.{IsRun, pages_made, world_after, place_after, opening}
+use Rattle.tr_top.specs.Running.{Added, Goes, IsTied, IsSound, IsFullAt}
+use Rattle.tr_top.proofs.Confined.{confined}
 
 pub world_more : (lines : List Line) (t : List Entry) (e : Entry) → world_after lines (t ++ e ∷ []) ≡ stepped (world_after lines t) e
 world_more lines t e = state_after_more stepped (world_of (opening lines)) t e
@@ -41,11 +32,14 @@ pub length_more : (t : List Entry) (e : Entry) → length (t ++ e ∷ []) ≡ le
 length_more [] e = refl
 length_more (x ∷ t) e = omega (arith, length_more t e)
 
-pub run_more : (lines : List Line) (t : List Entry) (e : Entry) → IsRun lines t → MayFollow (place_after lines t) e → MayCome (world_after lines t) e → IsRight (world_after lines t) e → length t < 4194304 → IsRun lines (t ++ e ∷ [])
-run_more lines t e run follows comes right room = record {
+pub run_more : (lines : List Line) (t : List Entry) (e : Entry) → IsRun lines t → MayFollow (place_after lines t) e → MayCome (world_after lines t) e → IsSound (world_after lines t) e → length t < 4194304 → IsRun lines (t ++ e ∷ [])
+run_more lines t e run follows comes sound room = record {
   follows = Each_more _ _ _ t e run.follows follows;
   allowed = Each_more _ _ _ t e run.allowed comes;
-  right = Each_more _ _ _ t e run.right right;
+  right = Each_more _ _ _ t e run.right sound.right;
+  windows = Each_more _ _ _ t e run.windows sound.windows;
+  confined = Each_more _ _ _ t e run.confined (confined (world_after lines t) e comes);
+  unlost = ap (λ (w : World). w.lost) (world_more lines t e) ∙ sound.unlost ∙ run.unlost;
   within = omega (arith, length_more t e);
 }
 
@@ -76,6 +70,16 @@ goes_ok v lines old new e taken now before after run is told later = record {
   run = subst (IsRun lines) (sym is) run;
   told = λ start a. subst (λ (t : List Entry). Appends start now (brief_texts t)) (sym is) (told_more start taken now old e a told);
   later = later;
+  cause = λ x. absurd (cc);
+  full = λ x. absurd (cc);
+}
+
+-- nothing was added
+pub goes_still : {T : Type 0} (v : T) (lines : List Line) (trace : List Entry) (taken : Option (List ℕ)) (faults : ℕ) → IsRun lines trace → Goes lines trace trace taken taken faults faults (Ok v)
+goes_still v lines trace taken faults run = record {
+  run = run;
+  told = λ start a. a;
+  later = omega arith;
   cause = λ x. absurd (cc);
   full = λ x. absurd (cc);
 }
@@ -111,117 +115,54 @@ pub goes_added : (r : Result (Unit {0}) Stop) (lines : List Line) (old new : Lis
 goes_added (Ok v) lines old new e taken now before after was run added later = goes_ok v lines old new e taken now before after run added.0 added.1 later
 goes_added (Err stop) lines old new e taken now before after was run added later = goes_err stop lines old new e taken now before after was run added later
 
--- What changes no word.
-pub still_words : (w : World) (e : Entry) → IsStill e → (stepped w e).machine.words ≡ w.machine.words
-still_words w (entry.Mkfs pages) s = refl
-still_words w (entry.Process process cred) s = refl
-still_words w (entry.Thread thread process) s = refl
-still_words w (entry.Tick n) s = refl
-still_words w (entry.Call thread command) s = refl
-still_words w (entry.Act thread now mark action answer) s = absurd s
-still_words w (entry.Reply thread reply) s = refl
-still_words w (entry.Stray thread addr word answer) s = refl
-still_words w (entry.Wild thread now action answer) s = refl
-still_words w (entry.Corrupt process) s = refl
-still_words w (entry.Kill process) s = refl
-still_words w (entry.Crash pick) s = refl
-still_words w (entry.CrashIn thread now call k pick) s = refl
-still_words w (entry.Recovery action) s = refl
-still_words w (entry.Recovered ready quarantined) s = refl
-still_words w (entry.Lost path) s = refl
-still_words w (entry.Skip line why) s = refl
-still_words w (entry.Quarantine path) s = refl
-still_words w (entry.Coffers list) s = refl
+-- two parts of a run, one behind the other
+pub goes_then : {T : Type 0} (r : Result T Stop) (lines : List Line) (old middle new : List Entry) (taken mid now : Option (List ℕ)) (before between after : ℕ) → Goes {T = Unit {0}} lines old middle taken mid before between (Ok tt) → Goes lines middle new mid now between after r → Goes lines old new taken now before after r
+goes_then r lines old middle new taken mid now before between after one two = record {
+  run = two.run;
+  told = λ start a. two.told start (one.told start a);
+  later = omega (arith, one.later, two.later);
+  cause = λ x. rose before between after one.later (two.cause x);
+  full = two.full;
+}
+  where
+    rose : (b m a : ℕ) → b ≤ m → Rose m a → Rose b a
+    rose b m a low r = ?
 
--- Nothing is lost.
-lost_stays : (w : World) (e : Entry) → (stepped w e).lost ≡ w.lost
-lost_stays w (entry.Mkfs pages) = refl
-lost_stays w (entry.Process process cred) = refl
-lost_stays w (entry.Thread thread process) = refl
-lost_stays w (entry.Tick n) = refl
-lost_stays w (entry.Call thread command) = refl
-lost_stays w (entry.Act thread now mark action answer) = refl
-lost_stays w (entry.Reply thread reply) = refl
-lost_stays w (entry.Stray thread addr word answer) = refl
-lost_stays w (entry.Wild thread now action answer) = refl
-lost_stays w (entry.Corrupt process) = refl
-lost_stays w (entry.Kill process) = refl
-lost_stays w (entry.Crash pick) = refl
-lost_stays w (entry.CrashIn thread now call k pick) = refl
-lost_stays w (entry.Recovery action) = refl
-lost_stays w (entry.Recovered ready quarantined) = refl
-lost_stays w (entry.Lost path) = refl
-lost_stays w (entry.Skip line why) = refl
-lost_stays w (entry.Quarantine path) = refl
-lost_stays w (entry.Coffers list) = refl
-
-stays_lost : (w : World) (trace : List Entry) → (state_after stepped w trace).lost ≡ w.lost
-stays_lost w [] = refl
-stays_lost w (e ∷ trace) = stays_lost (stepped w e) trace ∙ lost_stays w e
-
-pub nothing_lost : (lines : List Line) (trace : List Entry) → (world_after lines trace).lost ≡ false
-nothing_lost lines trace = stays_lost (world_of (opening lines)) trace
-
-pub tied_more : (lines : List Line) (coffer : Coffer) (words next : List Word) (old new : List Entry) (e : Entry) → IsTied lines coffer words old → IsRun lines (old ++ e ∷ []) → new ≡ old ++ e ∷ [] → next ≡ (stepped (world_after lines old) e).machine.words → length next ≡ length words → IsTied lines coffer next new
-tied_more lines coffer words next old new e tied run is same len = record {
+-- The machine is that of the trace with one more entry.
+pub tied_more : (lines : List Line) (m next : MachineView) (old new : List Entry) (e : Entry) → IsTied lines m old → IsRun lines (old ++ e ∷ []) → new ≡ old ++ e ∷ [] → next.bus ≡ (stepped (world_after lines old) e).machine.bus → next.failed ≡ false → pages_of next.bus.words ≡ pages_of m.bus.words → IsTied lines next new
+tied_more lines m next old new e tied run is same works size = record {
   run = subst (IsRun lines) (sym is) run;
-  memory = same ∙ ap (λ (w : World). w.machine.words) (sym (ap (world_after lines) is ∙ world_more lines old e));
+  bus = same ∙ ap (λ (w : World). w.machine.bus) (sym (ap (world_after lines) is ∙ world_more lines old e));
+  works = works;
   least = tied.least;
   most = tied.most;
-  size = ap (λ n. n / 512) len ∙ tied.size;
-  control = tied.control;
-  dir = tied.dir;
+  size = size ∙ tied.size;
 }
+
+pub tied_added : (r : Result (Unit {0}) Stop) (lines : List Line) (m next : MachineView) (old new : List Entry) (e : Entry) (taken now : Option (List ℕ)) (before after : ℕ) → IsTied lines m old → IsRun lines (old ++ e ∷ []) → Added r e old new taken now before after → next.bus ≡ (stepped (world_after lines old) e).machine.bus → next.failed ≡ false → pages_of next.bus.words ≡ pages_of m.bus.words → OnOk r (IsTied lines next new)
+tied_added (Ok v) lines m next old new e taken now before after tied run added same works size = tied_more lines m next old new e tied run added.0 same works size
+tied_added (Err stop) lines m next old new e taken now before after tied run added same works size = tt
 
 -- where an entry may follow, the end isn't reached
 pub not_at_end : (p : Place) (e : Entry) → MayFollow p e → IsAtEnd p → ⊥
-not_at_end p e may end = by p.left p.running end.lines end.call may
-  where
-    by : (left : List Line) (running : Option Running) → left ≡ [] → running ≡ None → IsNext left p.dir running e → ⊥
-    by left running l r may = let none = subst (λ x. IsNext x p.dir running e) l may in subst (λ x. IsNext [] p.dir x e) r none
+not_at_end p e may end = subst (λ (x : List Line). IsNext Resting x p.dir p.running e) end.lines (subst (λ (x : Turns). IsNext x p.left p.dir p.running e) end.turns may)
 
 pub full_at : (lines : List Line) (t : List Entry) (e : Entry) → MayFollow (place_after lines t) e → 4194304 ≤ length t → IsFullAt lines t
 full_at lines t e may long = record { full = long; due = not_at_end (place_after lines t) e may }
 
--- An action of the running call, and its reply, may follow.
-pub act_follows : (p : Place) (thread : ℕ) (mark : Mark) (action : Action) (answer : Answer) → IsActionAt p thread mark action → MayFollow p (entry.Act thread 0 mark action answer)
-act_follows p thread mark action answer (command, running, is) = subst (λ r. IsNext p.left p.dir r (entry.Act thread 0 mark action answer)) (sym running) (refl, refl, is)
-
-pub reply_follows : (p : Place) (coffer : Coffer) (thread : ℕ) (call : CallRun) (reply : Reply) → IsCallOf p coffer thread call → MayFollow p (entry.Reply thread reply)
-reply_follows p coffer thread call reply k = subst (λ r. IsNext p.left p.dir r (entry.Reply thread reply)) (sym k.running) refl
-
+-- A run begins tied.
 pub length_new_image : (pages : ℕ) → length (new_image pages) ≡ 512 * pages
 length_new_image pages = length-map-range_with_len (new_word pages) 0 (512 * pages)
 
--- A run begins tied.
-pub tied_first : (lines : List Line) (coffer : Coffer) (words : List Word) (trace : List Entry) (pages : ℕ) → pages ≡ pages_made lines → 64 ≤ pages → pages ≤ 16384 → words ≡ all_durable (new_image pages) → trace ≡ [] → coffer.control.at ≡ page_at (root_control pages) → coffer.dir.at ≡ page_at (root_page pages) → IsTied lines coffer words trace
-tied_first lines coffer words trace pages made least most is none control dir = record {
-  run = subst (IsRun lines) (sym none) (record { follows = tt; allowed = tt; right = tt; within = omega arith });
-  memory = is ∙ ap (λ n. all_durable (new_image n)) made ∙ ap (λ t. (world_after lines t).machine.words) (sym none);
+pub tied_first : (lines : List Line) (m : MachineView) (trace : List Entry) (pages : ℕ) → pages ≡ pages_made lines → 64 ≤ pages → pages ≤ 16384 → m.bus ≡ bus_over (new_image pages) → m.failed ≡ false → trace ≡ [] → IsTied lines m trace
+tied_first lines m trace pages made least most is works none = record {
+  run = subst (IsRun lines) (sym none) (record { follows = tt; allowed = tt; right = tt; windows = tt; confined = tt; unlost = refl; within = omega arith });
+  bus = is ∙ ap (λ n. bus_over (new_image n)) made ∙ ap (λ t. (world_after lines t).machine.bus) (sym none);
+  works = works;
   least = subst (λ n. 64 ≤ n) made least;
   most = subst (λ n. n ≤ 16384) made most;
-  size = ap (λ n. n / 512) (ap length is ∙ length_all_durable (new_image pages) ∙ length_new_image pages) ∙ whole pages ∙ made;
-  control = control ∙ ap (λ n. page_at (root_control n)) made;
-  dir = dir ∙ ap (λ n. page_at (root_page n)) made;
+  size = ap (λ (b : Bus). pages_of b.words) is ∙ ap (λ n. n / 512) (length_all_durable (new_image pages) ∙ length_new_image pages) ∙ whole pages ∙ made;
 }
   where
     whole : (n : ℕ) → 512 * n / 512 ≡ n
     whole n = omega arith
-
--- An added entry leaves the run tied, where the machine's words are those after it.
-pub tied_added : (r : Result (Unit {0}) Stop) (lines : List Line) (coffer : Coffer) (words next : List Word) (old new : List Entry) (e : Entry) (taken now : Option (List ℕ)) (before after : ℕ) → IsTied lines coffer words old → IsRun lines (old ++ e ∷ []) → Added r e old new taken now before after → next ≡ (stepped (world_after lines old) e).machine.words → length next ≡ length words → OnOk r (IsTied lines coffer next new)
-tied_added (Ok v) lines coffer words next old new e taken now before after tied run added same len = tied_more lines coffer words next old new e tied run added.0 same len
-tied_added (Err stop) lines coffer words next old new e taken now before after tied run added same len = tt
-
--- an action that the machine answers may come
-pub act_comes : (w : World) (words : List Word) (thread : ℕ) (mark : Mark) (action : Action) (answer : Answer) → words ≡ w.machine.words → IsThread w.machine thread → Answers words action answer → MayCome w (entry.Act thread 0 mark action answer)
-act_comes w words thread mark action answer same is answers = (is, omega arith, subst (λ (l : List Word). Answers l action answer) same answers)
-
--- A first line that makes an image: the machine is untouched, and stands over this very image.
-pub mkfs_comes : (lines : List Line) (trace : List Entry) (coffer : Coffer) (line : Line) (pages : ℕ) → IsNextLine lines trace coffer line → line ≡ Mkfs pages → ((world_after lines trace).machine.begun ≡ false) × (present_values (world_after lines trace).machine.words ≡ new_image pages)
-mkfs_comes lines trace coffer line pages next is =
-    let m = (world_after lines trace).machine in
-    let d = state_after declared nothing_declared next.before in
-    let stands : MayStand d (Mkfs pages) = subst (MayStand d) is next.stands in
-    let blank : m.begun ≡ false = next.like.begun ∙ stands.0 in
-    (blank, ap present_values (next.like.untouched blank) ∙ present_all_durable (opening lines) ∙ ap new_image (sym (next.first stands.0 pages is)))

@@ -3,8 +3,8 @@ use Rattle.std.specs.Prelude.{◌≡◌, ◌≤◌, ℕ, List, Option}
 use Rattle.std.specs.Io.KnownBytes.{Appends}
 use Rattle.tr_outside.specs.Causes.{Rose}
 use Rattle.tr_outside.specs.Whole.{AppendsFront}
-use Rattle.tr_top.specs.declared.runner.Stop.{Stop}
-use Rattle.tr_top.specs.declared.runner.Stop.TheVariants as stop
+use Rattle.tr_top.specs.declared.log.Stop.{Stop}
+use Rattle.tr_top.specs.declared.log.Stop.TheVariants as stop
 use Rattle.tr_script.specs.declared.status.Status.{Status}
 use Rattle.tr_script.specs.declared.status.Status.TheVariants.{Done, BadScript, ReadFault, WriteFault, NoMemory, Full}
 use Rattle.tr_top.specs.Top.{ReadsNoScript}

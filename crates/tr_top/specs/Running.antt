@@ -5,13 +5,16 @@ use Rattle.std.specs.Io.KnownBytes.{Appends}
 use Rattle.tr_types.specs.Denotes.{dir_of}
 use Rattle.tr_types.specs.Fold.{state_after}
 use Rattle.tr_types.specs.KernelView.{pages_of}
-use Rattle.tr_types.specs.Machine.{Bus, Machine, bus_over, pkru_of}
+use Rattle.zo_layout.specs.Layout.{page_at, root_page}
+use Rattle.tr_types.specs.Commands.{IsCommand}
+use Rattle.tr_types.specs.Machine.{Bus, Machine, IsThread, bus_over, pkru_of}
 use Rattle.tr_types.specs.Rights.{closed_pkru}
 use Rattle.tr_types.specs.Traces.{answer_at}
 use Rattle.tr_types.specs.Windows.{LeavesWindows}
 use Rattle.tr_types.specs.World.{World, Idle, stepped}
 use Rattle.tr_types.specs.declared.action.Answer.{Answer}
 use Rattle.tr_types.specs.declared.action.Answer.TheVariants.{Done}
+use Rattle.tr_types.specs.declared.command.Command.{Command}
 use Rattle.tr_types.specs.declared.entry.Entry.{Entry}
 use Rattle.tr_types.specs.declared.entry.Entry.TheVariants as entry
 use Rattle.bus_machine.specs.View.{MachineView}
@@ -23,10 +26,10 @@ use Rattle.tr_script.specs.Grammar.{Declared, declared, nothing_declared, MaySta
 use Rattle.tr_script.specs.Text.{brief_text, brief_texts}
 use Rattle.tr_script.specs.declared.script.Line.{Line}
 use Rattle.tr_script.specs.declared.script.Line.TheVariants.{Mkfs}
-use Rattle.tr_top.specs.Along.{Place, Running, Turns, Resting, IsAtEnd, before, after_action}
+use Rattle.tr_top.specs.Along.{Place, Running, Turns, Resting, IsAtEnd, MayFollow, before, after_action}
 use Rattle.tr_top.specs.Run.{IsRun, IsRight, trace_limit, pages_made, opening, world_after, place_after}
-use Rattle.tr_top.specs.declared.runner.Stop.{Stop}
-use Rattle.tr_top.specs.declared.runner.Stop.TheVariants.{Full, NoMemory, OutFailed}
+use Rattle.tr_top.specs.declared.log.Stop.{Stop}
+use Rattle.tr_top.specs.declared.log.Stop.TheVariants.{Full, NoMemory, OutFailed}
 use Rattle.tr_top.specs.declared.runner.Turned.{Turned}
 use Rattle.tr_top.specs.declared.runner.Turned.TheVariants.{Acted, Ended}
 use Rattle.tr_top.specs.declared.runner.RunningCall.{RunningCall}
@@ -134,21 +137,37 @@ pub record IsLike (lines : List Line) (m : Machine) (p : Place) (d : Declared) :
   pub threads : m.bus.threads ≡ d.threads
   pub begun : m.begun ≡ d.begun
   pub untouched : m.begun ≡ false → m.bus ≡ bus_over (opening lines)
-  pub dir : m.begun ≡ true → p.dir ≡ dir_of m.bus.words
+  pub dir : m.begun ≡ true → p.dir ≡ page_at (root_page (pages_made lines))
   pub calling : (r : Running) → p.running ≡ Some r → d.calling ≡ Some r.thread
 
 -- what lines declare
 abbrev pub declared_by : List Line → Declared
 declared_by lines = state_after declared nothing_declared lines
 
--- the line is the next of the script, and may stand there
-pub record IsNextLine (lines : List Line) (trace : List Entry) (line : Line) : Type 0 where
-  pub above : List Line
+-- the line is the next of the script
+pub record IsBefore (lines : List Line) (trace : List Entry) (line : Line) : Type 0 where
   pub below : List Line
   pub place : place_after lines trace ≡ before (line ∷ below) (place_after lines trace).running (place_after lines trace).dir
+
+-- and it may stand there
+pub record IsNextLine (lines : List Line) (trace : List Entry) (line : Line) : Type 0 where
+  pub above : List Line
+  pub next : IsBefore lines trace line
   pub like : IsLike lines (world_after lines trace).machine (place_after lines trace) (declared_by above)
   pub stands : MayStand (declared_by above) line
   pub first : (declared_by above).begun ≡ false → (pages : ℕ) → line ≡ Mkfs pages → pages ≡ pages_made lines
+
+-- a thread that was started is given a command, and no call runs
+pub record IsCallGiven (lines : List Line) (trace : List Entry) (thread : ℕ) (command : Command) : Type 0 where
+  pub valid : IsCommand command
+  pub lives : IsThread (world_after lines trace).machine.bus thread
+  pub follows : MayFollow (place_after lines trace) (entry.Call thread command)
+  pub free : (place_after lines trace).running ≡ None
+  pub dir : (place_after lines trace).dir ≡ page_at (root_page (pages_made lines))
+
+abbrev pub IsOfThread : ℕ → Option RunningCall → Type 0
+IsOfThread thread None = ⊥
+IsOfThread thread (Some call) = call.session.thread ≡ thread
 
 -- the line is done: the script stands before the next ones, and what it declares has been started
 pub record Passes (lines : List Line) (old new : List Entry) (line : Line) : Type 0 where

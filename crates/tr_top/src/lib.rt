@@ -1,7 +1,7 @@
 //! The top call: it reads a script, runs it on the machine, writes the replies as they come and the image at the end.
 #![tactic(auto)]
 
-mod machine;
+mod log;
 mod new_image;
 mod runner;
 #[cfg(test)]

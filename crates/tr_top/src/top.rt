@@ -9,7 +9,8 @@ ghost use Rattle.tr_top.specs.Run.{pages_made};
 ghost use Rattle.tr_top.specs.Top.{IsAnswered, IsForm, ReadsScript, RunEnds};
 ghost use Rattle.tr_top.specs.Ending.{IsRefusal, IsSaved, stop_status};
 
-use crate::runner::{Runner, Stop};
+use crate::log::Stop;
+use crate::runner::Runner;
 use std::alloc::Global;
 use tr_outside::{ReadError, Sink, Source, read_up_to, write_image};
 use tr_script::{Line, Script, ScriptFault, Status, read_script};
@@ -168,7 +169,7 @@ fn status_of(stop: Stop) -> Status
 // Saves the words as they are at the end of a run.
 fn save<D: Sink>(runner: &Runner, saved: &mut D) -> Status
     ensures saved { IsSaved result (D.written saved.old) (D.written saved.new) (D.faults saved.old) (D.faults saved.new)
-        (image_bytes (present_values runner.now.machine)) }
+        (image_bytes (present_values runner.now.machine.bus.words)) }
     ensures later { D.faults saved.old ≤ D.faults saved.new }
 {
     let Ok(image) = runner.image() else {

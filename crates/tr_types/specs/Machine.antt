@@ -5,6 +5,7 @@ use Rattle.std.specs.List.{range_with_len}
 use Rattle.pm_words.specs.Word.{Word}
 use Rattle.pm_words.specs.Memory.{word_at, store_at, all_durable, present_values}
 use Rattle.zo_layout.specs.Layout.{root_control, root_page}
+use Rattle.tr_types.specs.Commands.{IsPath}
 use Rattle.tr_types.specs.NewImage.{new_image}
 use Rattle.tr_types.specs.KernelView.{pages_of, owner_of, free_pages, given_to}
 use Rattle.tr_types.specs.Rights.{load_fault, store_fault, closed_pkru, key_for, those_against, holds_itself, allows_writing, is_row_of, with_row, without_row, IsLeastOf}
@@ -145,8 +146,8 @@ IsGiven right = (right.0 ≡ 1) ⊎ (right.0 ≡ 2)
 
 -- the kernel answers a call so
 abbrev pub CallAnswers : Bus → ℕ → Kcall → KernAnswer → Type 0
-CallAnswers bus thread (Find path None) answer = answer ≡ Found (found_at path) None
-CallAnswers bus thread (Map path right exclusive) answer = IsGiven right × MapAnswers bus thread exclusive answer
+CallAnswers bus thread (Find path None) answer = IsPath path × (answer ≡ Found (found_at path) None)
+CallAnswers bus thread (Map path right exclusive) answer = IsPath path × IsGiven right × MapAnswers bus thread exclusive answer
 CallAnswers bus thread (Unmap id) answer = UnmapAnswers bus thread id answer
 CallAnswers bus thread (Enlarge id count) answer = EnlargeAnswers bus thread id count answer
 CallAnswers bus thread call answer = ⊥
@@ -163,10 +164,10 @@ Answers bus thread (Pkru pkru) answer = answer ≡ Done
 Answers bus thread (Kernel call) answer = IsCalled bus thread call answer
 Answers bus thread action answer = ⊥
 
--- the actions that are built
+-- the actions that are built: of kernel calls those about `/` or a path of one name
 abbrev pub IsBuiltCall : Kcall → Type 0
-IsBuiltCall (Find path also) = also ≡ None
-IsBuiltCall (Map path right exclusive) = IsGiven right
+IsBuiltCall (Find path also) = IsPath path × (also ≡ None)
+IsBuiltCall (Map path right exclusive) = IsPath path × IsGiven right
 IsBuiltCall (Unmap id) = Unit {0}
 IsBuiltCall (Enlarge id count) = Unit {0}
 IsBuiltCall call = ⊥

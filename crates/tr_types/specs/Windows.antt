@@ -1,11 +1,15 @@
 -- Windows and confinement: which coffer a thread may reach at a moment, and by what a word changes.
 use Rattle.std.specs.Prelude.{◌≡◌, ◌≢◌, ℕ, ◌/◌, ◌≤◌, Contains, true, false, Some, None}
 use Rattle.tr_types.specs.Machine.{Bus, pkru_of, store_refusal}
-use Rattle.tr_types.specs.Rights.{may_read, may_write}
+use Rattle.tr_types.specs.Rights.{may_read, may_write, closed_pkru}
+use Rattle.zo_layout.specs.Layout.{owner_word}
+use Rattle.tr_types.specs.KernelView.{pages_of}
+use Rattle.tr_types.specs.declared.kernel_call.Kcall.TheVariants.{Find, Enlarge}
+use Rattle.tr_types.specs.declared.kernel_call.KernAnswer.TheVariants.{Pages}
 use Rattle.tr_types.specs.Denotes.{value}
 use Rattle.tr_types.specs.World.{World, Phase, Idle, Runs, stepped}
 use Rattle.tr_types.specs.declared.action.Action.TheVariants.{Store, Kernel}
-use Rattle.tr_types.specs.declared.action.Answer.TheVariants.{Done}
+use Rattle.tr_types.specs.declared.action.Answer.TheVariants.{Done, Kern}
 use Rattle.tr_types.specs.declared.command.Command.TheVariants.{Stat}
 use Rattle.tr_types.specs.declared.kernel_call.Holder.{Holder}
 use Rattle.tr_types.specs.declared.entry.Entry.{Entry}
@@ -30,27 +34,33 @@ pub record HoldsUnder (bus : Bus) (thread coffer key : ℕ) : Type 0 where
 
 -- a call that changes nothing
 abbrev pub IsReading : Phase → Type 0
-IsReading (Runs (Stat path) drained refused) = Unit {0}
+IsReading (Runs (Stat path) loaded drained asked) = Unit {0}
 IsReading phase = ⊥
 
--- One window: a thread has at most one key open, and none outside a call, where it holds no coffer either. The key is
--- that of a coffer which the thread itself holds and which its command consulted at the call's last Find. While the
+-- One window: a thread has at most one key open. Outside a call its register is the one with which it started, and it
+-- holds no coffer. The key is that of a coffer which the thread itself holds and which its command consulted at the call's last Find. While the
 -- command only reads, the key allows no store.
 pub record IsWindowed (w : World) : Type 0 where
   pub one : (thread key other : ℕ) → IsOpen w.machine.bus thread key → IsOpen w.machine.bus thread other → key ≡ other
-  pub closed : (thread key : ℕ) → w.phases thread ≡ Idle → IsOpen w.machine.bus thread key → ⊥
+  pub closed : (thread : ℕ) → w.phases thread ≡ Idle → pkru_of w.machine.bus thread ≡ closed_pkru
   pub unmapped : (thread : ℕ) (row : Holder) → w.phases thread ≡ Idle → Contains w.machine.bus.holders row → row.thread ≢ thread
   pub consulted : (thread key : ℕ) → IsOpen w.machine.bus thread key → (coffer : ℕ) × (w.consulted thread ≡ Some coffer) × HoldsUnder w.machine.bus thread coffer key
   pub reading : (thread key : ℕ) → IsReading (w.phases thread) → IsKey key → may_write (pkru_of w.machine.bus thread) key ≡ false
 
+-- a call looks for its coffer only while its window is closed
+abbrev pub FindsShut : World → Entry → Type 0
+FindsShut w (entry.Act thread now mark (Kernel (Find path also)) answer) = (key : ℕ) → IsOpen w.machine.bus thread key → ⊥
+FindsShut w e = Unit {0}
+
+-- the entry keeps to one window, and leaves one
 abbrev pub LeavesWindows : World → Entry → Type 0
-LeavesWindows w e = IsWindowed (stepped w e)
+LeavesWindows w e = IsWindowed (stepped w e) × FindsShut w e
 
 -- The entry may change the word at an address: it is a store to that word, by a thread to which the rights permit it at
--- that moment, or a kernel call.
+-- that moment, or a kernel call that gives pages, of which it changes the owners alone.
 abbrev pub MayChange : Bus → Entry → ℕ → Type 0
 MayChange bus (entry.Act thread now mark (Store at word) Done) addr = (at / 8 ≡ addr / 8) × (store_refusal bus thread at ≡ None)
-MayChange bus (entry.Act thread now mark (Kernel call) answer) addr = Unit {0}
+MayChange bus (entry.Act thread now mark (Kernel (Enlarge id count)) (Kern (Pages pages))) addr = (page : ℕ) × Contains pages page × (owner_word (pages_of bus.words) page / 8 ≡ addr / 8)
 MayChange bus (entry.Stray thread at word Done) addr = (at / 8 ≡ addr / 8) × (store_refusal bus thread at ≡ None)
 MayChange bus e addr = ⊥
 

@@ -20,18 +20,24 @@ use Rattle.tr_types.specs.declared.entry.Mark.{Mark}
 use Rattle.tr_types.specs.declared.entry.Mark.TheVariants.{Commit}
 use Rattle.tr_types.specs.declared.kernel_call.Kcall.{Kcall}
 use Rattle.tr_types.specs.declared.kernel_call.Kcall.TheVariants.{Find, Map, Unmap, Enlarge}
-use Rattle.tr_types.specs.declared.kernel_call.KernAnswer.TheVariants.{Found, NoPages}
+use Rattle.tr_types.specs.declared.kernel_call.KernAnswer.TheVariants.{Found, Pages, NoPages}
 
 -- pages asked for and pages free, at a refused Enlarge
 pub record Shortage : Type 0 where
   pub asked : ℕ
   pub free : ℕ
 
--- What a thread's call is at: none runs; one runs, whose last load of its pool's head may have shown no page, and
--- which may have been refused pages; its change has come about, and this is its reply.
+-- what the kernel has answered to a call's asking for pages: it has not asked; it was given them; it was refused them
+pub data Asked : Type 0 where
+  NotYet : Asked
+  Given : Asked
+  Refused : (short : Shortage) → Asked
+
+-- What a thread's call is at: none runs; one runs, which may have loaded a word, whose last load of its pool's head may
+-- have shown no page, and which may have asked for pages; its change has come about, and this is its reply.
 pub data Phase : Type 0 where
   Idle : Phase
-  Runs : (command : Command) (drained : Bool) (refused : Option Shortage) → Phase
+  Runs : (command : Command) (loaded drained : Bool) (asked : Asked) → Phase
   Committed : (reply : Reply) → Phase
 
 pub record World : Type 0 where
@@ -60,23 +66,30 @@ abbrev pub drained_after : ℕ → Bool → Action → Answer → Bool
 drained_after pool drained (Load addr) (WordIs word) = if addr == pool then word == 0 else drained
 drained_after pool drained action answer = drained
 
--- an Enlarge that was refused
-abbrev pub refused_after : Option Shortage → Answer → Option Shortage
-refused_after refused (Kern (NoPages asked free)) = Some (record { asked = asked; free = free })
-refused_after refused answer = refused
+-- a load that was permitted
+abbrev pub loaded_after : Bool → Action → Answer → Bool
+loaded_after loaded (Load addr) (WordIs word) = true
+loaded_after loaded action answer = loaded
+
+-- an Enlarge that was granted or refused
+abbrev pub asked_after : Asked → Answer → Asked
+asked_after asked (Kern (Pages pages)) = Given
+asked_after asked (Kern (NoPages count free)) = Refused (record { asked = count; free = free })
+asked_after asked answer = asked
 
 -- the phase of a call after an action that is no commit
 abbrev pub told : ℕ → Phase → Action → Answer → Phase
-told pool (Runs command drained refused) action answer = Runs command (drained_after pool drained action answer) (refused_after refused answer)
+told pool (Runs command loaded drained asked) action answer =
+    Runs command (loaded_after loaded action answer) (drained_after pool drained action answer) (asked_after asked answer)
 told pool phase action answer = phase
 
 -- a commit is the point of its call: the tree changes there, and the reply is decided
 abbrev pub committed : List Member → Phase → Phase
-committed tree (Runs command drained refused) = Committed (reply_to tree command)
+committed tree (Runs command loaded drained asked) = Committed (reply_to tree command)
 committed tree phase = phase
 
 abbrev pub grown : List Member → Phase → List Member
-grown tree (Runs command drained refused) = tree_after tree command
+grown tree (Runs command loaded drained asked) = tree_after tree command
 grown tree phase = tree
 
 abbrev pub phase_after : ℕ → List Member → Mark → Action → Answer → Phase → Phase
@@ -93,7 +106,7 @@ pool_of words = pool_head (page_at (root_control (pages_of words))) 0
 
 -- a Find shows the coffer of the path that the command consults
 abbrev pub consulted_after : List Word → Phase → Action → Answer → Option ℕ → Option ℕ
-consulted_after words (Runs command drained refused) (Kernel (Find path also)) (Kern (Found first second)) coffer = Some (coffer_of words (consulted_path command))
+consulted_after words (Runs command loaded drained asked) (Kernel (Find path also)) (Kern (Found first second)) coffer = Some (coffer_of words (consulted_path command))
 consulted_after words phase action answer coffer = coffer
 
 -- a stray store that is done makes the root coffer lost, since there is no other to which it can go
@@ -106,7 +119,7 @@ abbrev pub stepped : World → Entry → World
 stepped w (entry.Call thread command) = record {
   machine = moved w.machine (entry.Call thread command);
   tree = w.tree;
-  phases = put w.phases thread (Runs command false None);
+  phases = put w.phases thread (Runs command false false NotYet);
   consulted = put_consulted w.consulted thread None;
   lost = w.lost;
 }
@@ -128,26 +141,27 @@ MayCome w e = Fits w.machine e
 -- What may be legal: each reply is what the tree answers at its point. A change's point is its commit; every other
 -- reply's is the reply itself.
 
--- a commit is of a call that runs, was refused nothing, and whose change succeeds; it is done
+-- a commit is of a call that runs, was refused no pages, and whose change succeeds; it is done
 abbrev pub MayCommit : List Member → Phase → Answer → Type 0
-MayCommit tree (Runs command drained None) Done = IsChange tree command
+MayCommit tree (Runs command loaded drained (Refused short)) answer = ⊥
+MayCommit tree (Runs command loaded drained asked) Done = IsChange tree command
 MayCommit tree phase answer = ⊥
 
 -- Any other action is of a call that runs. It looks for the coffer that its command consults, and maps that one alone,
--- not for itself alone, with the right that the command needs. It asks for pages, at most two at once, only after its pool
+-- not for itself alone, with the right that the command needs. It asks for pages once, at most two, only after its pool
 -- showed none, and only in a change that would succeed; and of the kernel it asks for nothing after its commit but to end
 -- its map.
-abbrev pub MayAsk : List Member → Command → Bool → Option Shortage → Kcall → Type 0
-MayAsk tree command drained refused (Find path also) = (path ≡ consulted_path command) × (also ≡ None)
-MayAsk tree command drained refused (Map path right exclusive) = (right.0 ≡ right_needed command) × (exclusive ≡ false)
-MayAsk tree command drained refused (Unmap id) = Unit {0}
-MayAsk tree command drained refused (Enlarge id count) = (drained ≡ true) × (refused ≡ None) × (count ≤ 2) × IsChange tree command
-MayAsk tree command drained refused call = ⊥
+abbrev pub MayAsk : List Member → Command → Bool → Asked → Kcall → Type 0
+MayAsk tree command drained asked (Find path also) = (path ≡ consulted_path command) × (also ≡ None)
+MayAsk tree command drained asked (Map path right exclusive) = (path ≡ consulted_path command) × (right.0 ≡ right_needed command) × (exclusive ≡ false)
+MayAsk tree command drained asked (Unmap id) = Unit {0}
+MayAsk tree command drained asked (Enlarge id count) = (drained ≡ true) × (asked ≡ NotYet) × (count ≤ 2) × IsChange tree command
+MayAsk tree command drained asked call = ⊥
 
 abbrev pub MayAct : List Member → Phase → Action → Type 0
 MayAct tree Idle action = ⊥
-MayAct tree (Runs command drained refused) (Kernel call) = MayAsk tree command drained refused call
-MayAct tree (Runs command drained refused) action = Unit {0}
+MayAct tree (Runs command loaded drained asked) (Kernel call) = MayAsk tree command drained asked call
+MayAct tree (Runs command loaded drained asked) action = Unit {0}
 MayAct tree (Committed reply) (Kernel (Unmap id)) = Unit {0}
 MayAct tree (Committed reply) (Kernel call) = ⊥
 MayAct tree (Committed reply) action = Unit {0}
@@ -166,15 +180,16 @@ abbrev pub MapsConsulted : List Word → Option ℕ → Action → Type 0
 MapsConsulted words consulted (Kernel (Map path right exclusive)) = consulted ≡ Some (coffer_of words path)
 MapsConsulted words consulted action = Unit {0}
 
--- What a call without a commit may reply: where it was refused pages, that there is no space for them, which it asked
--- for in a change that would succeed; else what the tree answers, where that changes nothing.
-abbrev pub MayTell : List Member → Command → Option Shortage → Reply → Type 0
-MayTell tree command (Some short) reply = (reply ≡ NoSpace short.asked short.free) × (short.asked ≤ 2) × IsChange tree command
-MayTell tree command None reply = (reply ≡ reply_to tree command) × (tree_after tree command ≡ tree)
+-- What a call without a commit may reply, after a permitted load, and so from the words: where it was refused pages, that
+-- there is no space for them, which it asked for in a change that would succeed; else what the tree answers, where that
+-- changes nothing.
+abbrev pub MayTell : List Member → Command → Bool → Asked → Reply → Type 0
+MayTell tree command loaded (Refused short) reply = (loaded ≡ true) × (reply ≡ NoSpace short.asked short.free) × (short.asked ≤ 2) × IsChange tree command
+MayTell tree command loaded asked reply = (loaded ≡ true) × (reply ≡ reply_to tree command) × (tree_after tree command ≡ tree)
 
 abbrev pub MayReply : List Member → Phase → Reply → Type 0
 MayReply tree Idle reply = ⊥
-MayReply tree (Runs command drained refused) reply = MayTell tree command refused reply
+MayReply tree (Runs command loaded drained asked) reply = MayTell tree command loaded asked reply
 MayReply tree (Committed made) reply = reply ≡ made
 
 abbrev pub MayBegin : Phase → Type 0
