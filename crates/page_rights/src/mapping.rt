@@ -4,7 +4,7 @@ ghost use Rattle.std.specs.Vec.{vec_len};
 ghost use Rattle.page_rights.specs.Tables as tables;
 ghost use Rattle.page_rights.specs.Lookup.{place_of as spec_place, mapping_of};
 
-use crate::rows::mapping_of;
+use crate::rows::{is_held, mapping_of};
 use std::alloc::{AllocError, Global};
 use tr_types::Holder;
 
@@ -90,6 +90,17 @@ pub fn drop_pages_of(owners: &mut [u16], id: u16)
 {
     for owner in owners.iter_mut() {
         if *owner == id {
+            *owner = 0;
+        }
+    }
+}
+
+/// A page stands only under a coffer that somebody holds.
+pub fn keep_held_pages(owners: &mut [u16], holders: &[Holder])
+    ensures { owners.new ≡ tables.with_held_pages holders.now owners.old }
+{
+    for owner in owners.iter_mut() {
+        if !is_held(holders, *owner) {
             *owner = 0;
         }
     }

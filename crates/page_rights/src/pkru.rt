@@ -26,7 +26,7 @@ impl Pkru {
         ensures { result.0 ≡ rights.only_pkru key writable }
     {
         let access = 1u32 << (2 * key);
-        let stores = if writable { 0 } else { 2 * access };
+        let stores = if writable { 0 } else { 1u32 << (2 * key + 1) };
         Pkru(CLOSED - access + stores)
     }
 

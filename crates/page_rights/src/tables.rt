@@ -5,7 +5,7 @@ ghost use Rattle.tr_types.specs.Rights as rights;
 ghost use Rattle.page_rights.specs.Tables as spec;
 
 use crate::mapping::{
-    Mapping, drop_coffer, drop_pages_of, drop_process, look_up, nothing, place_of, put_pages,
+    Mapping, drop_coffer, drop_pages_of, drop_process, keep_held_pages, look_up, nothing, place_of, put_pages,
 };
 use crate::pkru::Pkru;
 use crate::rows::{holds_itself, is_held, is_in, key_for, least_against, process_of};
@@ -252,12 +252,7 @@ impl Tables {
         let processes = &self.processes;
         self.holders
             .retain(|h| !is_in(processes, h.thread, process));
-        let holders = &self.holders;
-        for owner in self.owners.iter_mut() {
-            if !is_held(holders, *owner) {
-                *owner = 0;
-            }
-        }
+        keep_held_pages(&mut self.owners, &self.holders);
         drop_process(&mut self.mappings, process);
     }
 
