@@ -1,1 +1,3 @@
 mod RegisterLemmas
+mod PageLemmas
+mod RowLemmas

@@ -1,5 +1,5 @@
 // What the list of holders says.
-ghost use Rattle.std.specs.Prelude.{◌≡◌, [], Some, IsSome, MatchOption};
+ghost use Rattle.std.specs.Prelude.{◌≡◌, Some, IsSome};
 ghost use Rattle.tr_types.specs.Rights as rights;
 ghost use Rattle.page_rights.specs.Lookup as lookup;
 
@@ -124,14 +124,30 @@ pub fn key_for(processes: &[Option<u8>], holders: &[Holder], process: u8, id: u1
 
 /// The least thread that stands against a map of the coffer.
 pub fn least_against(holders: &[Holder], thread: u16, id: u16, exclusive: bool) -> Option<u16>
-    ensures { MatchOption result (rights.those_against thread id exclusive holders.now ≡ [])
-        (rights.IsLeastOf (rights.those_against thread id exclusive holders.now)) }
+    ensures { lookup.IsLeast (rights.those_against thread id exclusive holders.now) result }
 {
-    holders
-        .iter()
-        .filter(|h| h.id == id && h.thread != thread && (h.exclusive || exclusive))
-        .map(|h| h.thread)
-        .min()
+    let mut least = None;
+    for holder in holders {
+        if stands_against(holder, thread, id, exclusive) {
+            least = Some(lesser(least, holder.thread));
+        }
+    }
+    least
+}
+
+fn stands_against(holder: &Holder, thread: u16, id: u16, exclusive: bool) -> bool
+    ensures { result ≡ rights.stands_against thread id exclusive holder.now }
+{
+    holder.id == id && holder.thread != thread && (holder.exclusive || exclusive)
+}
+
+fn lesser(least: Option<u16>, thread: u16) -> u16
+    ensures { result ≡ lookup.lesser least thread }
+{
+    match least {
+        Some(least) => least.min(thread),
+        None => thread,
+    }
 }
 
 /// Whether the thread itself holds the coffer.

@@ -1,7 +1,8 @@
 // The tables of all processes.
-ghost use Rattle.std.specs.Prelude.{◌≡◌, ◌≢◌, ℕ, ◌<◌, ◌≤◌, ◌↔◌, [], length, filter, slice_index, All, IsTrue, true, None, Some, IsSome, IfOk, OnOk, OnErr};
+ghost use Rattle.std.specs.Prelude.{◌≡◌, ◌≢◌, ℕ, ◌<◌, ◌≤◌, ◌↔◌, [], length, filter, slice_index, All, IsTrue, true, None, Some, IsSome, IfSome, IfOk, OnOk, OnErr};
 ghost use Rattle.std.specs.Result.{IsErrOf};
 ghost use Rattle.tr_types.specs.Rights as rights;
+ghost use Rattle.page_rights.specs.Lookup as lookup;
 ghost use Rattle.page_rights.specs.Tables as spec;
 
 use crate::mapping::{
@@ -190,11 +191,7 @@ impl Tables {
         ensures fault { result ≡ rights.load_fault self.now.threads self.now.holders thread pkru.0 (slice_index self.now.owners page) }
         ensures sound { spec.IsSound self.now }
     {
-        match self.mapping(thread, page) {
-            None => Some(FaultKind::NotMapped),
-            Some(mapping) if pkru.may_read(mapping.key) => None,
-            Some(_) => Some(FaultKind::KeyDenied),
-        }
+        load_fault(self.mapping(thread, page), pkru)
     }
 
     /// Why a store to a page by a thread is refused; none if it may. A page past the last is not mapped.
@@ -204,12 +201,7 @@ impl Tables {
         ensures fault { result ≡ rights.store_fault self.now.threads self.now.holders thread pkru.0 (slice_index self.now.owners page) }
         ensures sound { spec.IsSound self.now }
     {
-        match self.mapping(thread, page) {
-            None => Some(FaultKind::NotMapped),
-            Some(mapping) if !mapping.writable => Some(FaultKind::NotWritable),
-            Some(mapping) if pkru.may_write(mapping.key) => None,
-            Some(_) => Some(FaultKind::KeyDenied),
-        }
+        store_fault(self.mapping(thread, page), pkru)
     }
 
     /// Puts pages into the tables of all holders of a coffer. An error leaves the tables as they were.
@@ -257,7 +249,12 @@ impl Tables {
     }
 
     // How the process of the thread has the page's coffer mapped.
-    fn mapping(&self, thread: u16, page: u32) -> Option<Mapping> {
+    fn mapping(&self, thread: u16, page: u32) -> Option<Mapping>
+        requires { IsSome (rights.process_of self.now.threads thread) }
+        ensures mapping { result ≡ lookup.mapping_for self.now.threads self.now.holders thread (slice_index self.now.owners page) }
+        ensures key { IfSome result (λ mapping. mapping.key ≤ 15) }
+        ensures sound { spec.IsSound self.now }
+    {
         let place = page as usize;
         let id = if place < self.owners.len() {
             self.owners[place]
@@ -266,5 +263,39 @@ impl Tables {
         };
         let process = process_of(&self.processes, thread);
         self.mappings[place_of(process, id)]
+    }
+}
+
+fn load_fault(mapping: Option<Mapping>, pkru: Pkru) -> Option<FaultKind>
+    requires { IfSome mapping (λ mapping. mapping.key ≤ 15) }
+    ensures { result ≡ lookup.load_fault_of mapping pkru.0 }
+{
+    match mapping {
+        None => Some(FaultKind::NotMapped),
+        Some(mapping) => {
+            if pkru.may_read(mapping.key) {
+                None
+            } else {
+                Some(FaultKind::KeyDenied)
+            }
+        }
+    }
+}
+
+fn store_fault(mapping: Option<Mapping>, pkru: Pkru) -> Option<FaultKind>
+    requires { IfSome mapping (λ mapping. mapping.key ≤ 15) }
+    ensures { result ≡ lookup.store_fault_of mapping pkru.0 }
+{
+    match mapping {
+        None => Some(FaultKind::NotMapped),
+        Some(mapping) => {
+            if !mapping.writable {
+                Some(FaultKind::NotWritable)
+            } else if pkru.may_write(mapping.key) {
+                None
+            } else {
+                Some(FaultKind::KeyDenied)
+            }
+        }
     }
 }
