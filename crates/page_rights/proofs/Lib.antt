@@ -1,3 +1,4 @@
 mod RegisterLemmas
 mod PageLemmas
 mod RowLemmas
+mod ThreadLemmas
