@@ -2,3 +2,4 @@ mod RegisterLemmas
 mod PageLemmas
 mod RowLemmas
 mod ThreadLemmas
+mod TiedLemmas

@@ -38,6 +38,7 @@ least_more (Some least) threads thread is = record {
     chosen : (thread < least) ⊎ (least ≤ thread) → Contains (threads ++ thread ∷ []) (min least thread)
     chosen (inl lt) = let e : thread ≡ min least thread = omega arith in subst (λ (t : ℕ). Contains (threads ++ thread ∷ []) t) e (Contains-push threads thread)
     chosen (inr ge) = let e : least ≡ min least thread = omega arith in subst (λ (t : ℕ). Contains (threads ++ thread ∷ []) t) e (Contains-append_left threads (thread ∷ []) least is.among)
+
     by : (t : ℕ) → Contains threads t ⊎ (thread ≡ t) → min least thread ≤ t
     by t (inl h) = let le : least ≤ t = is.least t h in omega arith
     by t (inr e) = omega arith

@@ -39,6 +39,9 @@ free_in processes holders process = filter (is_free_in processes holders process
 abbrev pub key_for_in : List (Option ℕ) → List Holder → ℕ → ℕ → Option ℕ
 key_for_in processes holders process id = or_key (key_of processes holders process id) (first_of (free_in processes holders process))
 
+abbrev pub without_process_in : List (Option ℕ) → ℕ → List Holder → List Holder
+without_process_in processes process holders = filter (λ h. not (is_in processes h.thread process)) holders
+
 -- What is kept of a process and a coffer.
 
 abbrev pub mapping_by : Option ℕ → Bool → Option Mapping

@@ -6,10 +6,13 @@ ghost use Rattle.page_rights.specs.Lookup as lookup;
 ghost use Rattle.page_rights.specs.Tables as spec;
 
 use crate::mapping::{
-    Mapping, drop_coffer, drop_pages_of, drop_process, keep_held_pages, look_up, nothing, place_of, put_pages,
+    self, Mapping, drop_pages_of, keep_held_pages, look_up, nothing, owner_of, place_of, put_pages,
+    unowned,
 };
 use crate::pkru::Pkru;
-use crate::rows::{holds_itself, is_held, is_in, key_for, least_against, process_of};
+use crate::rows::{
+    self, drop_row, holds_itself, is_held, key_for, least_against, process_of, put_row,
+};
 use std::alloc::{AllocError, Global};
 use std::marker::Model;
 use thiserror::Error;
@@ -68,13 +71,15 @@ impl Tables {
         ensures pages { IfOk result (λ t. length t.owners ≡ pages) }
         ensures owners { IfOk result (λ t. All (λ owner. owner ≡ 0) t.owners) }
     {
-        let owners = vec![in alloc; 0; pages as usize]?;
+        let owners = unowned(alloc, pages as usize)?;
+        let processes = nothing(alloc, THREADS)?;
+        let mappings = nothing(alloc, PLACES)?;
         Ok(Tables {
             threads: Vec::new(alloc),
-            processes: nothing(alloc, THREADS)?,
+            processes,
             holders: Vec::new(alloc),
             owners,
-            mappings: nothing(alloc, PLACES)?,
+            mappings,
         })
     }
 
@@ -126,8 +131,6 @@ impl Tables {
         let Some(key) = key_for(&self.processes, &self.holders, process, id) else {
             return Err(MapFault::NoKey);
         };
-        self.holders.reserve(1).map_err(|_| MapFault::NoMemory)?;
-        self.holders.retain(|h| !(h.thread == thread && h.id == id));
         let row = Holder {
             thread,
             id,
@@ -135,7 +138,7 @@ impl Tables {
             right,
             exclusive,
         };
-        self.holders.push(row).unwrap();
+        put_row(&mut self.holders, row).map_err(|_| MapFault::NoMemory)?;
         put_pages(&mut self.owners, id, pages);
         look_up(
             &mut self.mappings,
@@ -159,7 +162,7 @@ impl Tables {
             return false;
         }
         let process = process_of(&self.processes, thread);
-        self.holders.retain(|h| !(h.thread == thread && h.id == id));
+        drop_row(&mut self.holders, thread, id);
         if !is_held(&self.holders, id) {
             drop_pages_of(&mut self.owners, id);
         }
@@ -230,9 +233,9 @@ impl Tables {
         ensures after { self.new ≡ spec.coffer_dropped id self.old }
         ensures pages_stay { length self.new.owners ≡ length self.old.owners }
     {
-        self.holders.retain(|h| h.id != id);
+        rows::drop_coffer(&mut self.holders, id);
         drop_pages_of(&mut self.owners, id);
-        drop_coffer(&mut self.mappings, id);
+        mapping::drop_coffer(&mut self.mappings, id);
     }
 
     /// Ends all maps of a process. Pages of coffers that nobody holds then leave the tables. Takes no
@@ -241,11 +244,9 @@ impl Tables {
         ensures after { self.new ≡ spec.process_dropped process self.old }
         ensures pages_stay { length self.new.owners ≡ length self.old.owners }
     {
-        let processes = &self.processes;
-        self.holders
-            .retain(|h| !is_in(processes, h.thread, process));
+        rows::drop_process(&mut self.holders, &self.processes, process);
         keep_held_pages(&mut self.owners, &self.holders);
-        drop_process(&mut self.mappings, process);
+        mapping::drop_process(&mut self.mappings, process);
     }
 
     // How the process of the thread has the page's coffer mapped.
@@ -255,12 +256,7 @@ impl Tables {
         ensures key { IfSome result (λ mapping. mapping.key ≤ 15) }
         ensures sound { spec.IsSound self.now }
     {
-        let place = page as usize;
-        let id = if place < self.owners.len() {
-            self.owners[place]
-        } else {
-            0
-        };
+        let id = owner_of(&self.owners, page);
         let process = process_of(&self.processes, thread);
         self.mappings[place_of(process, id)]
     }

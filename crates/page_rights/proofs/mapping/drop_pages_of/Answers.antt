@@ -9,10 +9,10 @@ loop-owner-preserved c =
     let inside = c.loop-owner-test.true in
     let within : c.loop-owner.owner-index < length c.loop-owner.owners = omega arith in
     elim c.if-owner-id.branch [
-      then-owner-id w ↦
-        over_more (λ owner. cond (eqb owner c.args.id) 0 owner) c.args.owners.now c.loop-owner.owners _ c.loop-owner.owner-index _ _ inside within c.loop-owner.invariant refl
-        (sym (ap (λ b. cond b 0 (get_or c.loop-owner.owners c.loop-owner.owner-index 0)) (eq-eqb _ _ w.if-owner-id.true))) w.owners-is
-    | else-owner-id w ↦
-        over_more (λ owner. cond (eqb owner c.args.id) 0 owner) c.args.owners.now c.loop-owner.owners _ c.loop-owner.owner-index _ _ inside within c.loop-owner.invariant refl
-        (sym (ap (λ b. cond b 0 (get_or c.loop-owner.owners c.loop-owner.owner-index 0)) (ne_eqb _ _ w.if-owner-id.false))) w.owners-is
+      | then-owner-id w ↦
+          over_more (λ owner. cond (eqb owner c.args.id) 0 owner) c.args.owners.now c.loop-owner.owners _ c.loop-owner.owner-index _ _ inside within c.loop-owner.invariant refl
+          (sym (ap (λ b. cond b 0 (get_or c.loop-owner.owners c.loop-owner.owner-index 0)) (eq-eqb _ _ w.if-owner-id.true))) w.owners-is
+      | else-owner-id w ↦
+          over_more (λ owner. cond (eqb owner c.args.id) 0 owner) c.args.owners.now c.loop-owner.owners _ c.loop-owner.owner-index _ _ inside within c.loop-owner.invariant refl
+          (sym (ap (λ b. cond b 0 (get_or c.loop-owner.owners c.loop-owner.owner-index 0)) (ne_eqb _ _ w.if-owner-id.false))) w.owners-is
     ]

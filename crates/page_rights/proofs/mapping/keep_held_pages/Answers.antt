@@ -10,10 +10,10 @@ loop-owner-preserved c =
     let within : c.loop-owner.owner-index < length c.loop-owner.owners = omega arith in
     let owner = get_or c.loop-owner.owners c.loop-owner.owner-index 0 in
     elim c.if-not-is_held.branch [
-      then-not-is_held w ↦
-        over_more (λ owner. cond (is_held owner c.args.holders.now) owner 0) c.args.owners.now c.loop-owner.owners _ c.loop-owner.owner-index _ _ inside within c.loop-owner.invariant refl
-        (sym (ap (λ b. cond b owner 0) (sym c.is_held.ensures ∙ w.if-not-is_held.true))) w.owners-is
-    | else-not-is_held w ↦
-        over_more (λ owner. cond (is_held owner c.args.holders.now) owner 0) c.args.owners.now c.loop-owner.owners _ c.loop-owner.owner-index _ _ inside within c.loop-owner.invariant refl
-        (sym (ap (λ b. cond b owner 0) (sym c.is_held.ensures ∙ w.if-not-is_held.false))) w.owners-is
+      | then-not-is_held w ↦
+          over_more (λ owner. cond (is_held owner c.args.holders.now) owner 0) c.args.owners.now c.loop-owner.owners _ c.loop-owner.owner-index _ _ inside within c.loop-owner.invariant refl
+          (sym (ap (λ b. cond b owner 0) (sym c.is_held.ensures ∙ w.if-not-is_held.true))) w.owners-is
+      | else-not-is_held w ↦
+          over_more (λ owner. cond (is_held owner c.args.holders.now) owner 0) c.args.owners.now c.loop-owner.owners _ c.loop-owner.owner-index _ _ inside within c.loop-owner.invariant refl
+          (sym (ap (λ b. cond b owner 0) (sym c.is_held.ensures ∙ w.if-not-is_held.false))) w.owners-is
     ]
