@@ -1,0 +1,5 @@
+mod RegisterLemmas
+mod PageLemmas
+mod RowLemmas
+mod ThreadLemmas
+mod TiedLemmas
