@@ -1,0 +1,3 @@
+pub mod Tables
+pub mod Lookup
+pub mod Laws

@@ -1,0 +1,17 @@
+//! Who may load and store which page.
+//!
+//! A process maps coffers, each under a key of its own, and with a coffer all its pages. A thread may
+//! load a page where its process has mapped the page's coffer and the thread's own register PKRU has
+//! the key open; it may store where moreover a thread of its process has mapped it for writing.
+#![tactic(auto)]
+
+mod mapping;
+mod pkru;
+mod rows;
+mod tables;
+
+pub use pkru::Pkru;
+pub use tables::{MapFault, Tables};
+
+#[cfg(test)]
+mod tests;

@@ -1,0 +1,159 @@
+// What the list of holders says.
+ghost use Rattle.std.specs.Prelude.{◌≡◌, [], Some, IsSome, MatchOption};
+ghost use Rattle.tr_types.specs.Rights as rights;
+ghost use Rattle.page_rights.specs.Lookup as lookup;
+
+use crate::mapping::Mapping;
+use tr_types::{Holder, Right};
+
+/// The process of a thread, by the thread's number.
+pub fn process_at(processes: &[Option<u8>], thread: u16) -> Option<u8>
+    ensures { result ≡ lookup.process_at processes.now thread }
+{
+    let place = usize::from(thread);
+    if place < processes.len() {
+        processes[place]
+    } else {
+        None
+    }
+}
+
+/// The process of a thread that was started.
+pub fn process_of(processes: &[Option<u8>], thread: u16) -> u8
+    requires { IsSome (lookup.process_at processes.now thread) }
+    ensures { lookup.process_at processes.now thread ≡ Some result }
+{
+    process_at(processes, thread).unwrap()
+}
+
+/// Whether the thread was started in the process.
+pub fn is_in(processes: &[Option<u8>], thread: u16, process: u8) -> bool
+    ensures { result ≡ lookup.is_in processes.now thread process }
+{
+    match process_at(processes, thread) {
+        Some(own) => own == process,
+        None => false,
+    }
+}
+
+/// The key that the process has for the coffer.
+pub fn key_of(processes: &[Option<u8>], holders: &[Holder], process: u8, id: u16) -> Option<u8>
+    ensures { result ≡ lookup.key_of processes.now holders.now process id }
+{
+    for holder in holders {
+        if holder.id == id && is_in(processes, holder.thread, process) {
+            return Some(holder.key);
+        }
+    }
+    None
+}
+
+/// Whether a thread of the process holds the coffer for writing.
+pub fn is_writable(processes: &[Option<u8>], holders: &[Holder], process: u8, id: u16) -> bool
+    ensures { result ≡ lookup.is_writable_in processes.now holders.now process id }
+{
+    for holder in holders {
+        if holder.id == id
+            && is_in(processes, holder.thread, process)
+            && allows_writing(holder.right)
+        {
+            return true;
+        }
+    }
+    false
+}
+
+fn allows_writing(right: Right) -> bool
+    ensures { result ≡ rights.allows_writing right }
+{
+    right.0 / 2 % 2 == 1
+}
+
+/// How the process has the coffer mapped.
+pub fn mapping_of(
+    processes: &[Option<u8>],
+    holders: &[Holder],
+    process: u8,
+    id: u16,
+) -> Option<Mapping>
+    ensures { result ≡ lookup.mapping_of processes.now holders.now process id }
+{
+    match key_of(processes, holders, process, id) {
+        Some(key) => Some(Mapping {
+            key,
+            writable: is_writable(processes, holders, process, id),
+        }),
+        None => None,
+    }
+}
+
+/// Whether no thread of the process holds a coffer under the key.
+fn is_free_key(processes: &[Option<u8>], holders: &[Holder], process: u8, key: u8) -> bool
+    ensures { result ≡ lookup.is_free_in processes.now holders.now process key }
+{
+    for holder in holders {
+        if holder.key == key && is_in(processes, holder.thread, process) {
+            return false;
+        }
+    }
+    true
+}
+
+/// The least key of 1 to 15 that is free in the process.
+fn first_free_key(processes: &[Option<u8>], holders: &[Holder], process: u8) -> Option<u8>
+    ensures { result ≡ rights.first_of (lookup.free_in processes.now holders.now process) }
+{
+    for key in 1u8..16 {
+        if is_free_key(processes, holders, process, key) {
+            return Some(key);
+        }
+    }
+    None
+}
+
+/// The key under which the process may map the coffer: that which it has for it, or else the least
+/// that is free.
+pub fn key_for(processes: &[Option<u8>], holders: &[Holder], process: u8, id: u16) -> Option<u8>
+    ensures { result ≡ lookup.key_for_in processes.now holders.now process id }
+{
+    match key_of(processes, holders, process, id) {
+        Some(key) => Some(key),
+        None => first_free_key(processes, holders, process),
+    }
+}
+
+/// The least thread that stands against a map of the coffer.
+pub fn least_against(holders: &[Holder], thread: u16, id: u16, exclusive: bool) -> Option<u16>
+    ensures { MatchOption result (rights.those_against thread id exclusive holders.now ≡ [])
+        (rights.IsLeastOf (rights.those_against thread id exclusive holders.now)) }
+{
+    holders
+        .iter()
+        .filter(|h| h.id == id && h.thread != thread && (h.exclusive || exclusive))
+        .map(|h| h.thread)
+        .min()
+}
+
+/// Whether the thread itself holds the coffer.
+pub fn holds_itself(holders: &[Holder], thread: u16, id: u16) -> bool
+    ensures { result ≡ rights.holds_itself thread id holders.now }
+{
+    for holder in holders {
+        if holder.thread == thread && holder.id == id {
+            return true;
+        }
+    }
+    false
+}
+
+/// Whether some thread holds the coffer.
+pub fn is_held(holders: &[Holder], id: u16) -> bool
+    ensures { result ≡ rights.is_held id holders.now }
+{
+    for holder in holders {
+        if holder.id == id {
+            return true;
+        }
+    }
+    false
+}

@@ -1,0 +1,270 @@
+// The tables of all processes.
+ghost use Rattle.std.specs.Prelude.{◌≡◌, ◌≢◌, ℕ, ◌<◌, ◌≤◌, ◌↔◌, [], length, filter, slice_index, All, IsTrue, true, None, Some, IsSome, IfOk, OnOk, OnErr};
+ghost use Rattle.std.specs.Result.{IsErrOf};
+ghost use Rattle.tr_types.specs.Rights as rights;
+ghost use Rattle.page_rights.specs.Tables as spec;
+
+use crate::mapping::{
+    Mapping, drop_coffer, drop_pages_of, drop_process, keep_held_pages, look_up, nothing, place_of, put_pages,
+};
+use crate::pkru::Pkru;
+use crate::rows::{holds_itself, is_held, is_in, key_for, least_against, process_of};
+use std::alloc::{AllocError, Global};
+use std::marker::Model;
+use thiserror::Error;
+use tr_types::{FaultKind, Holder, Right};
+
+const THREADS: usize = 256;
+
+/// 64 processes with 257 coffers each: 1 to 256, and 0 for none.
+const PLACES: usize = 16_448;
+
+/// Why a coffer isn't mapped.
+#[derive(Clone, Copy, Debug, PartialEq, Eq, Error)]
+pub enum MapFault {
+    /// The least thread that holds it, where its map or this one is exclusive.
+    #[error("thread {0} has it mapped")]
+    InUse(u16),
+    #[error("all 15 keys of the process are in use")]
+    NoKey,
+    #[error("out of memory")]
+    NoMemory,
+}
+
+/// The coffers that each process has mapped, with their pages.
+///
+/// Up to 256 threads in 64 processes, and 256 coffers, 1 to 256. A loading or storing thread is
+/// answered at a cost that doesn't grow with pages, processes, threads or holders.
+#[derive(Drop)]
+pub struct Tables {
+    threads: Vec<(u16, u8)>,
+    // The process of each thread by its number.
+    processes: Vec<Option<u8>>,
+    holders: Vec<Holder>,
+    // The coffer of each page, 0 for none.
+    owners: Vec<u16>,
+    // What `holders` says of each process and coffer.
+    mappings: Vec<Option<Mapping>>,
+}
+
+impl Model for Tables {
+    ghost use Rattle.page_rights.specs.Tables.{View};
+    ghost use Rattle.page_rights.specs.Lookup.{AreTied};
+
+    ghost Value = { View };
+
+    ghost view = { λ t. record { threads = t.threads.items; holders = t.holders.items; owners = t.owners.items } };
+
+    ghost invariant = { λ t. AreTied t.threads.items t.processes.items t.holders.items t.owners.items t.mappings.items };
+}
+
+impl Tables {
+    /// No thread is started and no page mapped, of so many pages.
+    pub fn new(alloc: Global, pages: u32) -> Result<Tables, AllocError>
+        requires { pages ≤ 16384 }
+        ensures threads { IfOk result (λ t. t.threads ≡ []) }
+        ensures holders { IfOk result (λ t. t.holders ≡ []) }
+        ensures pages { IfOk result (λ t. length t.owners ≡ pages) }
+        ensures owners { IfOk result (λ t. All (λ owner. owner ≡ 0) t.owners) }
+    {
+        let owners = vec![in alloc; 0; pages as usize]?;
+        Ok(Tables {
+            threads: Vec::new(alloc),
+            processes: nothing(alloc, THREADS)?,
+            holders: Vec::new(alloc),
+            owners,
+            mappings: nothing(alloc, PLACES)?,
+        })
+    }
+
+    /// Puts a thread into a process. An error leaves the tables as they were.
+    pub fn start(&mut self, thread: u16, process: u8) -> Result<(), AllocError>
+        requires thread { thread < 256 }
+        requires process { process < 64 }
+        requires fresh { rights.process_of self.old.threads thread ≡ None }
+        ensures ok { OnOk result (self.new ≡ spec.started thread process self.old) }
+        ensures err { OnErr result (self.new ≡ self.old) }
+    {
+        self.threads.push((thread, process))?;
+        self.processes[usize::from(thread)] = Some(process);
+        Ok(())
+    }
+
+    /// Maps a coffer of 1 to 256 for a thread, and answers the key: that which its process has for it,
+    /// or else the least of 1 to 15 that is free. The thread's earlier map of the coffer ends. Right
+    /// Write is for loads and stores, each other for loads.
+    ///
+    /// `InUse` comes before `NoKey`. An error leaves the tables as they were.
+    pub fn map(
+        &mut self,
+        thread: u16,
+        id: u16,
+        right: Right,
+        exclusive: bool,
+        pages: &[u32],
+    ) -> Result<u8, MapFault>
+        requires started { IsSome (rights.process_of self.old.threads thread) }
+        requires least_id { 1 ≤ id }
+        requires greatest_id { id ≤ 256 }
+        requires pages { All (spec.MayStand id self.old.owners) pages.now }
+        requires same { IsTrue (rights.is_held id self.old.holders) → spec.AreItsPages id pages.now self.old.owners }
+        ensures ok { IfOk result (λ key.
+            self.new ≡ spec.mapped (record { thread = thread; id = id; key = key; right = right; exclusive = exclusive }) pages.now self.old) }
+        ensures free { OnOk result (rights.those_against thread id exclusive self.old.holders ≡ []) }
+        ensures key { IfOk result (λ key. rights.key_for self.old.threads self.old.holders thread id ≡ Some key) }
+        ensures in_use { (other : ℕ) → IsErrOf result (MapFault.InUse other) ↔ rights.IsLeastOf (rights.those_against thread id exclusive self.old.holders) other }
+        ensures no_key { IsErrOf result MapFault.NoKey
+            ↔ ((rights.those_against thread id exclusive self.old.holders ≡ []) × (rights.key_for self.old.threads self.old.holders thread id ≡ None)) }
+        ensures err { OnErr result (self.new ≡ self.old) }
+        ensures pages_stay { length self.new.owners ≡ length self.old.owners }
+    {
+        if let Some(other) = least_against(&self.holders, thread, id, exclusive) {
+            return Err(MapFault::InUse(other));
+        }
+        let process = process_of(&self.processes, thread);
+        let Some(key) = key_for(&self.processes, &self.holders, process, id) else {
+            return Err(MapFault::NoKey);
+        };
+        self.holders.reserve(1).map_err(|_| MapFault::NoMemory)?;
+        self.holders.retain(|h| !(h.thread == thread && h.id == id));
+        let row = Holder {
+            thread,
+            id,
+            key,
+            right,
+            exclusive,
+        };
+        self.holders.push(row).unwrap();
+        put_pages(&mut self.owners, id, pages);
+        look_up(
+            &mut self.mappings,
+            &self.processes,
+            &self.holders,
+            process,
+            id,
+        );
+        Ok(key)
+    }
+
+    /// Ends a thread's map of a coffer, and answers whether it had one. With the last map of a coffer its
+    /// pages leave the tables. Takes no memory.
+    pub fn unmap(&mut self, thread: u16, id: u16) -> bool
+        requires started { IsSome (rights.process_of self.old.threads thread) }
+        ensures held { result ≡ rights.holds_itself thread id self.old.holders }
+        ensures after { self.new ≡ spec.unmapped thread id self.old }
+        ensures pages_stay { length self.new.owners ≡ length self.old.owners }
+    {
+        if !holds_itself(&self.holders, thread, id) {
+            return false;
+        }
+        let process = process_of(&self.processes, thread);
+        self.holders.retain(|h| !(h.thread == thread && h.id == id));
+        if !is_held(&self.holders, id) {
+            drop_pages_of(&mut self.owners, id);
+        }
+        look_up(
+            &mut self.mappings,
+            &self.processes,
+            &self.holders,
+            process,
+            id,
+        );
+        true
+    }
+
+    /// Who holds a coffer, the last mapped last.
+    pub fn holders(&self, alloc: Global, id: u16) -> Result<Vec<Holder>, AllocError>
+        ensures rows { IfOk result (λ rows. rows.items ≡ spec.rows_of id self.now.holders) }
+    {
+        self.holders
+            .iter()
+            .filter(|h| h.id == id)
+            .copied()
+            .collect(alloc)
+    }
+
+    /// Why a load of a page by a thread is refused; none if it may. A page past the last is not mapped.
+    /// Takes no memory.
+    pub fn may_load(&self, thread: u16, pkru: Pkru, page: u32) -> Option<FaultKind>
+        requires started { IsSome (rights.process_of self.now.threads thread) }
+        ensures fault { result ≡ rights.load_fault self.now.threads self.now.holders thread pkru.0 (slice_index self.now.owners page) }
+        ensures sound { spec.IsSound self.now }
+    {
+        match self.mapping(thread, page) {
+            None => Some(FaultKind::NotMapped),
+            Some(mapping) if pkru.may_read(mapping.key) => None,
+            Some(_) => Some(FaultKind::KeyDenied),
+        }
+    }
+
+    /// Why a store to a page by a thread is refused; none if it may. A page past the last is not mapped.
+    /// Takes no memory.
+    pub fn may_store(&self, thread: u16, pkru: Pkru, page: u32) -> Option<FaultKind>
+        requires started { IsSome (rights.process_of self.now.threads thread) }
+        ensures fault { result ≡ rights.store_fault self.now.threads self.now.holders thread pkru.0 (slice_index self.now.owners page) }
+        ensures sound { spec.IsSound self.now }
+    {
+        match self.mapping(thread, page) {
+            None => Some(FaultKind::NotMapped),
+            Some(mapping) if !mapping.writable => Some(FaultKind::NotWritable),
+            Some(mapping) if pkru.may_write(mapping.key) => None,
+            Some(_) => Some(FaultKind::KeyDenied),
+        }
+    }
+
+    /// Puts pages into the tables of all holders of a coffer. An error leaves the tables as they were.
+    pub fn add_pages(&mut self, id: u16, pages: &[u32]) -> Result<(), AllocError>
+        requires held { IsTrue (rights.is_held id self.old.holders) }
+        requires pages { All (spec.MayStand id self.old.owners) pages.now }
+        ensures ok { OnOk result (self.new ≡ spec.with_owners (spec.with_pages id pages.now self.old.owners) self.old) }
+        ensures err { OnErr result (self.new ≡ self.old) }
+        ensures pages_stay { length self.new.owners ≡ length self.old.owners }
+    {
+        put_pages(&mut self.owners, id, pages);
+        Ok(())
+    }
+
+    /// Takes pages out of all tables. Takes no memory.
+    pub fn take_pages(&mut self, pages: &[u32])
+        requires pages { All (λ page. page < length self.old.owners) pages.now }
+        ensures after { self.new ≡ spec.with_owners (spec.with_pages 0 pages.now self.old.owners) self.old }
+        ensures pages_stay { length self.new.owners ≡ length self.old.owners }
+    {
+        put_pages(&mut self.owners, 0, pages);
+    }
+
+    /// Ends all maps of a coffer. Takes no memory.
+    pub fn drop_coffer(&mut self, id: u16)
+        ensures after { self.new ≡ spec.coffer_dropped id self.old }
+        ensures pages_stay { length self.new.owners ≡ length self.old.owners }
+    {
+        self.holders.retain(|h| h.id != id);
+        drop_pages_of(&mut self.owners, id);
+        drop_coffer(&mut self.mappings, id);
+    }
+
+    /// Ends all maps of a process. Pages of coffers that nobody holds then leave the tables. Takes no
+    /// memory.
+    pub fn drop_process(&mut self, process: u8)
+        ensures after { self.new ≡ spec.process_dropped process self.old }
+        ensures pages_stay { length self.new.owners ≡ length self.old.owners }
+    {
+        let processes = &self.processes;
+        self.holders
+            .retain(|h| !is_in(processes, h.thread, process));
+        keep_held_pages(&mut self.owners, &self.holders);
+        drop_process(&mut self.mappings, process);
+    }
+
+    // How the process of the thread has the page's coffer mapped.
+    fn mapping(&self, thread: u16, page: u32) -> Option<Mapping> {
+        let place = page as usize;
+        let id = if place < self.owners.len() {
+            self.owners[place]
+        } else {
+            0
+        };
+        let process = process_of(&self.processes, thread);
+        self.mappings[place_of(process, id)]
+    }
+}
