@@ -8,7 +8,7 @@ use crate::mapping::{
     Mapping, drop_coffer, drop_pages_of, drop_process, keep_held_pages, look_up, nothing, place_of, put_pages,
 };
 use crate::pkru::Pkru;
-use crate::rows::{holds_itself, is_held, is_in, key_for, least_against, process_of};
+use crate::rows::{holds_itself, is_held, is_in, key_for, least_against, process_at, process_of};
 use std::alloc::{AllocError, Global};
 use std::marker::Model;
 use thiserror::Error;
@@ -266,5 +266,12 @@ impl Tables {
         };
         let process = process_of(&self.processes, thread);
         self.mappings[place_of(process, id)]
+    }
+
+    /// The process of a thread; none where it wasn't started. Takes no memory.
+    pub fn process_of(&self, thread: u16) -> Option<u8>
+        ensures { result ≡ rights.process_of self.now.threads thread }
+    {
+        process_at(&self.processes, thread)
     }
 }
