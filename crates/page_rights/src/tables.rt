@@ -11,7 +11,7 @@ use crate::mapping::{
 };
 use crate::pkru::Pkru;
 use crate::rows::{
-    self, drop_row, holds_itself, is_held, key_for, least_against, process_of, put_row,
+    self, drop_row, holds_itself, is_held, key_for, least_against, process_at, process_of, put_row,
 };
 use std::alloc::{AllocError, Global};
 use std::marker::Model;
@@ -259,6 +259,13 @@ impl Tables {
         let id = owner_of(&self.owners, page);
         let process = process_of(&self.processes, thread);
         self.mappings[place_of(process, id)]
+    }
+
+    /// The process of a thread; none where it wasn't started. Takes no memory.
+    pub fn process_of(&self, thread: u16) -> Option<u8>
+        ensures { result ≡ rights.process_of self.now.threads thread }
+    {
+        process_at(&self.processes, thread)
     }
 }
 

@@ -1,0 +1,58 @@
+-- What each call of a machine answers, and what it leaves, by cases on the answer. A fault but NoMemory leaves all as it
+-- was. NoMemory leaves the machine failed; a failed machine answers NoMemory, and nothing else.
+use Rattle.std.specs.Prelude.{◌≡◌, ℕ, ◌<◌, Contains, Bool, true, false, Option, None, Some, Result, Ok, Err}
+use Rattle.tr_types.specs.Machine.{Bus, Answers, IsStored, IsThread, IsGiven, bus_after, with_process, with_thread}
+use Rattle.tr_types.specs.declared.action.Action.{Action}
+use Rattle.tr_types.specs.declared.action.Action.TheVariants.{Load, Store, Pkru, Kernel}
+use Rattle.tr_types.specs.declared.action.Answer.{Answer}
+use Rattle.tr_types.specs.declared.kernel_call.Kcall.{Kcall}
+use Rattle.tr_types.specs.declared.kernel_call.Kcall.TheVariants.{Find, Map, Unmap, Enlarge}
+use Rattle.bus_machine.specs.View.{MachineView}
+use Rattle.bus_machine.specs.declared.fault.BusFault.{BusFault}
+use Rattle.bus_machine.specs.declared.fault.BusFault.TheVariants.{NoThread, NoProcess, Started, NoMemory}
+
+-- Which actions can be given. A map asks for Read or for Write alone, a find for one path.
+
+abbrev pub IsBuiltCall : Kcall → Type 0
+IsBuiltCall (Find path None) = Unit {0}
+IsBuiltCall (Map path right exclusive) = IsGiven right
+IsBuiltCall (Unmap id) = Unit {0}
+IsBuiltCall (Enlarge id count) = Unit {0}
+IsBuiltCall call = ⊥
+
+abbrev pub IsBuilt : Action → Type 0
+IsBuilt (Load addr) = Unit {0}
+IsBuilt (Store addr word) = Unit {0}
+IsBuilt (Pkru pkru) = Unit {0}
+IsBuilt (Kernel call) = IsBuiltCall call
+IsBuilt action = ⊥
+
+-- the call is done: the machine hadn't failed, and hasn't
+abbrev pub with_bus : Bus → MachineView
+with_bus bus = record { bus = bus; failed = false }
+
+-- a fault of a machine that hadn't failed
+abbrev pub IsRefused : MachineView → MachineView → Type 0
+IsRefused old new = (old.failed ≡ false) × (new ≡ old)
+
+abbrev pub StartsProcess : MachineView → MachineView → ℕ → Result Unit BusFault → Type 0
+StartsProcess old new process (Ok done) = (old.failed ≡ false) × (Contains old.bus.processes process → ⊥) × (new ≡ with_bus (with_process process old.bus))
+StartsProcess old new process (Err Started) = IsRefused old new × Contains old.bus.processes process
+StartsProcess old new process (Err NoMemory) = (new.failed ≡ true) × (old.failed ≡ false → Contains old.bus.processes process → ⊥)
+StartsProcess old new process (Err fault) = ⊥
+
+abbrev pub StartsThread : MachineView → MachineView → ℕ → ℕ → Result Unit BusFault → Type 0
+StartsThread old new thread process (Ok done) =
+    (old.failed ≡ false) × Contains old.bus.processes process × (IsThread old.bus thread → ⊥) × (new ≡ with_bus (with_thread thread process old.bus))
+StartsThread old new thread process (Err NoProcess) = IsRefused old new × (Contains old.bus.processes process → ⊥)
+StartsThread old new thread process (Err Started) = IsRefused old new × Contains old.bus.processes process × IsThread old.bus thread
+StartsThread old new thread process (Err NoMemory) = (new.failed ≡ true) × (old.failed ≡ false → Contains old.bus.processes process × (IsThread old.bus thread → ⊥))
+StartsThread old new thread process (Err NoThread) = ⊥
+
+-- a step of a thread
+abbrev pub ActsAs : MachineView → MachineView → ℕ → Action → Result Answer BusFault → Type 0
+ActsAs old new thread action (Ok answer) =
+    (old.failed ≡ false) × IsThread old.bus thread × Answers old.bus thread action answer × (new ≡ with_bus (bus_after thread action answer old.bus))
+ActsAs old new thread action (Err NoThread) = IsRefused old new × (IsThread old.bus thread → ⊥)
+ActsAs old new thread action (Err NoMemory) = (new.failed ≡ true) × (old.failed ≡ false → IsThread old.bus thread)
+ActsAs old new thread action (Err fault) = ⊥
