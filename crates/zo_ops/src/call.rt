@@ -15,8 +15,8 @@ use crate::plan::{Bucket, PlanRun, Spot, plan_in_free_entry, plan_in_fresh_page}
 use sqlite_items::Boxed;
 use std::alloc::{AllocError, Global};
 use std::mem;
-use zo_layout::{KIND_FILE, file_map, first_entry_page, first_free_entry, pool_head};
 use tr_types::{Action, Answer, Command, Kcall, KernAnswer, Kind, Mark, Reply};
+use zo_layout::{KIND_FILE, file_map, first_entry_page, first_free_entry, pool_head};
 
 /// The root coffer's number.
 const ROOT_COFFER: u16 = 1;
