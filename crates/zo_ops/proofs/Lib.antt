@@ -44,6 +44,8 @@ pub mod SpotLaws
 pub mod StoreSteps
 -- what a call gives with its reply
 pub mod ReplySteps
+-- what a call knows that begins
+pub mod BeginLaws
 -- what comes after an answer, exit by exit
 pub mod CallExits
 -- what a call gives that asks for pages
