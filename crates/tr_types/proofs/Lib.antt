@@ -2,3 +2,5 @@
 pub mod FoldLemmas
 -- laws of the free pages
 pub mod FreePages
+-- laws of the machine
+pub mod MachineLemmas
