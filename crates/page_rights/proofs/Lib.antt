@@ -3,3 +3,4 @@ mod PageLemmas
 mod RowLemmas
 mod ThreadLemmas
 mod TiedLemmas
+mod ChangeLemmas
