@@ -1,5 +1,6 @@
 // Why the machine doesn't do what it is asked.
 ghost use Rattle.std.specs.Prelude.{◌≡◌};
+ghost use Rattle.bus_machine.specs.declared.fault.BusFault.TheVariants.{NoMemory};
 
 use std::alloc::AllocError;
 use thiserror::Error;
@@ -20,7 +21,7 @@ pub enum BusFault {
 }
 
 impl From<AllocError> for BusFault {
-    ghost from_gives = { λ _ r. r ≡ BusFault.NoMemory };
+    ghost from_gives = { λ _ r. r ≡ NoMemory };
 
     fn from(_: AllocError) -> BusFault {
         BusFault::NoMemory

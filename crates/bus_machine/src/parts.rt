@@ -300,7 +300,7 @@ impl Parts {
         Ok(
             holders
                 .iter()
-                .any(|h| h.thread == thread && h.right.contains(Right::WRITE)),
+                .any(|h| h.thread == thread && allows_writing(h.right)),
         )
     }
 }
@@ -318,4 +318,10 @@ fn found(path: &Path) -> KernAnswer
         },
         second: None,
     }
+}
+
+fn allows_writing(right: Right) -> bool
+    ensures { result ≡ rights.allows_writing right }
+{
+    right.0 / 2 % 2 == 1
 }

@@ -1,1 +1,2 @@
 use super::*;
+use pm_words::Words;
