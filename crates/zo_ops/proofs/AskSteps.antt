@@ -3,7 +3,6 @@ use Rattle.std.proofs.Common.{◌≡◌, ℕ, ◌<◌, ◌≤◌, List, [], ◌�
 use Rattle.pm_words.specs.Word.{Word}
 use Rattle.zo_layout.specs.Layout.{bucket_of, page_at, root_control, root_page}
 use Rattle.tr_types.specs.KernelView.{pages_of, free_pages, given_to}
-use Rattle.tr_types.specs.Machine.{Answers}
 use Rattle.tr_types.specs.Tree.{Member}
 use Rattle.tr_types.specs.Denotes.{value, Chain}
 use Rattle.tr_types.specs.World.{Phase, Runs}
@@ -22,7 +21,8 @@ use Rattle.zo_ops.specs.declared.plan.Spot.{Spot}
 use Rattle.zo_ops.specs.declared.plan.Spot.TheVariants.{Free, Fresh}
 use Rattle.tr_types.specs.Commands.{IsCommand}
 use Rattle.zo_ops.specs.Laid.{IsLaid, IsFresh, entries_in}
-use Rattle.zo_ops.specs.Knows.{Ground, Links, Goes, NextGives, IsSpot, AreDrawn, name_of, spot_pages}
+use Rattle.zo_ops.specs.Permitted.{Answers}
+use Rattle.zo_ops.specs.Knows.{Ground, Links, Goes, NextGives, StageKnows, IsSpot, AreDrawn, name_of, spot_pages}
 use Rattle.zo_ops.proofs.ReplySteps.{change_is_due, few_pages}
 use Rattle.zo_ops.proofs.EnlargeLaws.{laid_enlarge}
 use Rattle.zo_ops.proofs.GivenLaws.{distinct_two}
@@ -40,6 +40,10 @@ chain_first words at (e ∷ es) c = c.0
 
 same_first : (words other : List Word) (at there : ℕ) (es : List ℕ) → Chain words at es → Chain other there es → there ≡ at
 same_first words other at there es c d = chain_first other there es d ∙ sym (chain_first words at es c)
+
+some_page : (spot : Spot) → 1 ≤ spot_pages spot
+some_page (Free entry next) = omega arith
+some_page (Fresh first) = omega arith
 
 bucket_below : (name : List ℕ) → bucket_of name < 256
 bucket_below name = omega arith
@@ -116,7 +120,7 @@ module _ (coffer : Coffer) (command : Command) (head : ℕ) (spot : Spot) (words
     spot_by (Fresh first) none = none
 
   -- what the kernel answers, and what is known then
-  answered : (answer : KernAnswer) → Answers words (Kernel (Enlarge 1 (spot_pages spot))) (Kern answer) → Goes coffer command (stage.Drawing head spot) Plain (Kernel (Enlarge 1 (spot_pages spot))) words tree (Runs command true None) (Kern answer)
+  answered : (answer : KernAnswer) → Answers words (Kernel (Enlarge 1 (spot_pages spot))) (Kern answer) → Goes (StageKnows coffer command (stage.Drawing head spot)) Plain (Kernel (Enlarge 1 (spot_pages spot))) words tree (Runs command true None) (Kern answer)
   answered (kern.Pages pages') (one, least, most, (enough, are)) = record {
     legal = (refl, refl, few_pages spot, change_is_due coffer command head words tree k valid);
     denotes = ground_denotes coffer _ tree (ground new enough is);
@@ -161,4 +165,7 @@ module _ (coffer : Coffer) (command : Command) (head : ℕ) (spot : Spot) (words
   kernel_only P p (Kern answer) a = p answer a
 
   pub ask_gives : (phase : Phase) → phase ≡ Runs command true None → NextGives coffer command (next.Act (Kernel (Enlarge 1 (spot_pages spot))) (stage.Drawing head spot)) words tree phase
-  ask_gives phase is = kernel_only _ (λ answer a. subst (λ p. Goes coffer command (stage.Drawing head spot) Plain (Kernel (Enlarge 1 (spot_pages spot))) words tree p (Kern answer)) (sym is) (answered answer a))
+  ask_gives phase is = record {
+    reachable = (refl, some_page spot, omega (arith, few_pages spot));
+    goes = kernel_only _ (λ answer a. subst (λ p. Goes (StageKnows coffer command (stage.Drawing head spot)) Plain (Kernel (Enlarge 1 (spot_pages spot))) words tree p (Kern answer)) (sym is) (answered answer a));
+  }

@@ -8,7 +8,9 @@ use Rattle.zo_layout.specs.Layout.{page_at, owner_word, root_control, root_page,
 use Rattle.tr_types.specs.KernelView.{pages_of, owner_of}
 use Rattle.tr_types.specs.Denotes.{value, control_of, dir_of, IsCofferPage, Chain}
 use Rattle.zo_ops.specs.Laid.{Role, Spare, Control, Root, Entries, FilePage, FileAt, IsPlaceOf, HasFile, entries_in, IsBuilt, AreFree, IsLaid, stored_all}
-use Rattle.zo_ops.proofs.KeepLaws.{entries_are_files, entry_held, place_held, value_stored, value_other, Held, IsApart, IsAside, held_stored, pages_held, place_is, chain_held, file_held, aside_no_head}
+use Rattle.zo_ops.proofs.KeepLaws.{entries_are_files, entry_held, place_held, value_stored, value_other, Held, IsApart, IsAside, held_stored, pages_held, coffer_held, chain_held, file_held, aside_no_head}
+use Rattle.zo_ops.specs.Reach.{IsCofferWord}
+use Rattle.zo_ops.proofs.Places.{place_is, page_word_reached}
 use Rattle.zo_ops.proofs.Members.{contains_here, contains_there, contains_cases}
 use Rattle.zo_ops.proofs.PlanLemmas.{length_stored_all}
 use Rattle.zo_ops.proofs.PairLaws.{AllAt, aside_all, value_through}
@@ -62,6 +64,8 @@ built_grown words roles new files grown b = record {
   size = b.size;
   control = grown (root_control (pages_of words)) (λ spare. let r : Control ≡ Spare = sym b.control ∙ spare in absurd (cc)) ∙ b.control;
   root = grown (root_page (pages_of words)) (λ spare. let r : Root ≡ Spare = sym b.root ∙ spare in absurd (cc)) ∙ b.root;
+  control_coffers = b.control_coffers;
+  root_coffers = b.root_coffers;
   kind = b.kind;
   no_intent = b.no_intent;
   heads = b.heads;
@@ -84,7 +88,7 @@ head_apart words roles files b each lt = record {
 }
 
 -- its address is one of the memory's, and not the kernel's
-pub head_address : (words : List Word) (b : ℕ) → IsPages (length words) (pages_of words) → b < 256 → IsAddress (length words) (bucket_head (dir_of words) b)
+head_address : (words : List Word) (b : ℕ) → IsPages (length words) (pages_of words) → b < 256 → IsAddress (length words) (bucket_head (dir_of words) b)
 head_address words b size lt = record { aligned = omega arith; inside = let whole = size.whole in let least = size.least in omega arith }
 
 pub head_behind : (words : List Word) (b : ℕ) → control_of words ≤ bucket_head (dir_of words) b
@@ -97,6 +101,8 @@ built_more words roles files f head is b new leads others = record {
   size = subst (λ (n : ℕ). IsPages n (n / 512)) (sym held.len) b.size;
   control = ap (λ (n : ℕ). roles (root_control n)) same ∙ b.control;
   root = ap (λ (n : ℕ). roles (root_page n)) same ∙ b.root;
+  control_coffers = subst (λ (n : ℕ). IsCofferPage after (root_control n)) (sym same) (coffer_held words after (f ∷ files) (root_control (pages_of words)) held b.control_coffers);
+  root_coffers = subst (λ (n : ℕ). IsCofferPage after (root_page n)) (sym same) (coffer_held words after (f ∷ files) (root_page (pages_of words)) held b.root_coffers);
   kind = ap (λ (n : ℕ). value after (page_at (root_page n))) same ∙ held.kind ∙ b.kind;
   no_intent = ap (λ (n : ℕ). value after (word_of (page_at (root_control n)) 3)) same ∙ held.no_intent ∙ b.no_intent;
   heads = λ i lt. subst (λ (n : ℕ). Chain after (value after (bucket_head (page_at (root_page n)) i)) (entries_in i (f ∷ files))) (sym same) (bucket i lt (cases_eq (bucket_of f.name) i));
@@ -154,7 +160,7 @@ head_held words roles files b x built lt = held_stored words roles files (bucket
 
 -- The words that a plan may store to.
 
--- a word of the root page, or of a page behind it, that is somebody's
+-- a word of the root page, or of a page behind it, that is the coffer's
 pub record IsOurs (words : List Word) (addr : ℕ) : Type 0 where
   pub page : ℕ
   pub word : ℕ
@@ -162,13 +168,10 @@ pub record IsOurs (words : List Word) (addr : ℕ) : Type 0 where
   pub within : word < 512
   pub low : root_page (pages_of words) ≤ page
   pub inside : page < pages_of words
-  pub owned : owner_of words page ≢ 0
+  pub owned : owner_of words page ≡ 1
 
-pub ours_address : (words : List Word) (addr : ℕ) → IsPages (length words) (pages_of words) → IsOurs words addr → IsAddress (length words) addr
-ours_address words addr size o = record {
-  aligned = omega (arith, o.is);
-  inside = let whole = size.whole in let is = o.is in let low = o.within in let inside = o.inside in omega arith;
-}
+pub ours_reached : (words : List Word) (addr : ℕ) → IsPages (length words) (pages_of words) → IsOurs words addr → IsCofferWord words addr
+ours_reached words addr size o = subst (IsCofferWord words) (sym o.is) (page_word_reached words o.page o.word size (record { inside = o.inside; owned = o.owned }) o.within)
 
 pub ours_behind : (words : List Word) (addr : ℕ) → IsOurs words addr → control_of words ≤ addr
 ours_behind words addr o = omega (arith, o.is, o.low)
@@ -178,17 +181,14 @@ ours_aligned words addr o = omega (arith, o.is)
 
 pub ours_root : (words : List Word) (roles : ℕ → Role) (files : List FileAt) (frees : List ℕ) (word : ℕ) → IsLaid words roles files frees → word < 512 → IsOurs words (word_of (dir_of words) word)
 ours_root words roles files frees word laid lt =
-    let least = laid.built.size.least in
-    let most = laid.built.size.most in
-    let inside : root_page (pages_of words) < pages_of words = omega arith in
     record {
       page = root_page (pages_of words);
       word = word;
       is = refl;
       within = lt;
       low = omega arith;
-      inside = inside;
-      owned = λ none. let past = (laid.spare (root_page (pages_of words)) inside none).1 in omega arith;
+      inside = laid.built.root_coffers.inside;
+      owned = laid.built.root_coffers.owned;
     }
 
 pub ours_coffer : (words : List Word) (page word : ℕ) → IsCofferPage words page → root_page (pages_of words) < page → word < 512 → IsOurs words (word_of (page_at page) word)
@@ -199,7 +199,7 @@ ours_coffer words page word c past lt = record {
   within = lt;
   low = omega arith;
   inside = c.inside;
-  owned = λ none. omega (arith, c.owned);
+  owned = c.owned;
 }
 
 pub ours_place : (words : List Word) (roles : ℕ → Role) (entry j : ℕ) → IsPlaceOf words roles entry → j < 40 → IsOurs words (word_of entry j)
@@ -238,7 +238,7 @@ laid_after words after roles new files files' frees frees' laid l same_role buil
       (same_role page (inside page lt) (before page lt none) ∙ was.0, subst (λ (n : ℕ). root_page n < page) (sym same) was.1);
   blank = λ page i lt none within.
       l.beyond (word_of (page_at page) i) (omega arith)
-      (λ other o is. o.owned (ap (λ (p : ℕ). owner_of words p) (same_page page i o.page o.word within o.within (sym o.is ∙ is)) ∙ before page lt none))
+      (λ other o is. omega (arith, o.owned, ap (λ (p : ℕ). owner_of words p) (same_page page i o.page o.word within o.within (sym o.is ∙ is)) ∙ before page lt none))
       ∙ laid.blank page i (inside page lt) (before page lt none) within;
 }
   where
@@ -258,7 +258,7 @@ laid_after words after roles new files files' frees frees' laid l same_role buil
 pub record IsSafe (words : List Word) (roles : ℕ → Role) (files : List FileAt) (head addr : ℕ) : Type 0 where
   pub aside : IsAside words roles files addr
   pub ours : IsOurs words addr
-  pub address : IsAddress (length words) addr
+  pub reached : IsCofferWord words addr
   pub behind : control_of words ≤ addr
   pub no_head : addr ≢ head
 
@@ -266,7 +266,7 @@ pub safe_store : (words : List Word) (roles : ℕ → Role) (files : List FileAt
 safe_store words roles files b addr size lt aside ours = record {
   aside = aside;
   ours = ours;
-  address = ours_address words addr size ours;
+  reached = ours_reached words addr size ours;
   behind = ours_behind words addr ours;
   no_head = λ same. aside_no_head words roles files addr b aside lt (sym same);
 }

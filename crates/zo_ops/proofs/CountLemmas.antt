@@ -10,7 +10,7 @@ use Rattle.zo_ops.specs.Laid.{Role, FileAt, IsBuilt, entries_in}
 use Rattle.tr_types.specs.declared.action.Answer.{Answer}
 use Rattle.zo_ops.specs.declared.count.Asked.{Asked as CountAsked}
 use Rattle.zo_ops.specs.Looking.{count_below, Counts, CountKnowsAt}
-use Rattle.zo_ops.proofs.EntryPlaces.{entry_some}
+use Rattle.zo_ops.proofs.Places.{entry_some}
 
 -- a number is below the next one where it is below this one or is this one
 one_more_test : (x b : ℕ) → cond (ltb x (b + 1)) 1 0 ≡ cond (ltb x b) 1 0 + cond (eqb x b) 1 0

@@ -110,6 +110,8 @@ module _ (words new : List Word) (given : IsGiven words new) where
     size = subst (λ (n : ℕ). IsPages n (n / 512)) (sym given.len) built.size;
     control = ap (λ (n : ℕ). roles (root_control n)) count ∙ built.control;
     root = ap (λ (n : ℕ). roles (root_page n)) count ∙ built.root;
+    control_coffers = subst (λ (n : ℕ). IsCofferPage new (root_control n)) (sym count) (coffer_page (root_control (pages_of words)) built.control_coffers);
+    root_coffers = subst (λ (n : ℕ). IsCofferPage new (root_page n)) (sym count) (coffer_page (root_page (pages_of words)) built.root_coffers);
     kind = kept_at (λ n. page_at (root_page n)) (omega arith, omega arith) ∙ built.kind;
     no_intent = kept_at (λ n. word_of (page_at (root_control n)) 3) (omega arith, omega arith) ∙ built.no_intent;
     heads = λ b lt.

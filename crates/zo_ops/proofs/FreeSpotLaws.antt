@@ -7,7 +7,7 @@ use Rattle.tr_types.specs.KernelView.{pages_of, owner_of}
 use Rattle.tr_types.specs.Denotes.{value, dir_of, Chain}
 use Rattle.zo_ops.specs.Laid.{Role, Spare, FilePage, FileAt, IsPlaceOf, HasFile, IsBuilt, AreFree, IsLaid, IsFresh, stored_all}
 use Rattle.zo_ops.specs.Plans.{entry_pairs, free_entry_pairs}
-use Rattle.zo_ops.proofs.KeepLaws.{value_other, Held, Kept, IsAside, InSpare, AtEntryPage, AtFreeEntry, InFree, spare_differs, entries_apart, entry_off_page, held_both, pages_held, coffer_held, place_of_held, past_held, chain_held, stored_kept, all_kept, built_kept}
+use Rattle.zo_ops.proofs.KeepLaws.{value_other, Held, Kept, IsAside, InSpare, AtEntryPage, AtFreeEntry, InFree, spare_differs, entries_apart, entry_off_page, held_both, pages_held, coffer_held, place_of_held, past_held, chain_held, stored_kept, all_kept, all_held, built_kept}
 use Rattle.zo_ops.proofs.Members.{contains_here, contains_there, contains_cases}
 use Rattle.zo_ops.proofs.PlanLemmas.{AreAside, HasEntry, stored_all_aside, stored_all_last, named_after}
 use Rattle.zo_ops.proofs.PairLaws.{AllAt, value_through, all_at-weaker, aside_all, free_pairs_at, entry_pairs_at}
@@ -69,6 +69,11 @@ free_aside words roles files entry rest name head next page laid fresh short =
 pub safe_kept : (words : List Word) (roles : ℕ → Role) (files : List FileAt) (head : ℕ) (pairs : List (ℕ × ℕ)) → IsBuilt words roles files → AllAt (IsSafe words roles files head) pairs → (k : ℕ) → IsBuilt (stored_all (take k pairs) words) roles files
 safe_kept words roles files head pairs b all =
     all_kept words roles files pairs b (all_at-weaker (IsSafe words roles files head) (IsAside words roles files) pairs (λ addr s. s.aside) all)
+
+-- and the owners stay
+pub safe_held : (words : List Word) (roles : ℕ → Role) (files : List FileAt) (head : ℕ) (pairs : List (ℕ × ℕ)) → IsBuilt words roles files → AllAt (IsSafe words roles files head) pairs → (k : ℕ) → Held words files (stored_all (take k pairs) words)
+safe_held words roles files head pairs b all =
+    all_held words roles files pairs b (all_at-weaker (IsSafe words roles files head) (IsAside words roles files) pairs (λ addr s. s.aside) all)
 
 -- The free entries that are left.
 
@@ -195,7 +200,7 @@ free_commit words roles files entry rest name head next page laid fresh named he
     kind =
         let start : word_of (page_at page) 0 ≡ page_at page = omega arith in
         stored_all_last [] ((free_at, next) ∷ entry_words) words (page_at page) 1
-        (fresh_start_safe words roles files (bucket_of name) page laid.built.size (bucket_low name) fresh).address (
+        (fresh_start_safe words roles files (bucket_of name) page laid.built.size (bucket_low name) fresh).reached.word (
           omega arith,
           (λ same. omega (arith, fresh.past)),
           others_aside (page_at page) entry_words (entry_pairs_at (IsOther (page_at page)) entry head (page_at page) name named.short
@@ -234,7 +239,7 @@ free_commit words roles files entry rest name head next page laid fresh named he
     free_next =
         value_other at entry free_at mid (omega arith) (omega arith) (λ same. omega arith)
         ∙ stored_all_last ((page_at page, 1) ∷ []) entry_words words free_at next
-        (free_entry_safe words roles files (entry ∷ rest) (bucket_of name) laid (bucket_low name)).address
+        (free_entry_safe words roles files (entry ∷ rest) (bucket_of name) laid (bucket_low name)).reached.word
         (others_aside free_at entry_words (entry_pairs_at (IsOther free_at) entry head (page_at page) name named.short (λ j low. place_off_root words roles entry j 5 place (omega arith))))
         ∙ next_is
 

@@ -190,7 +190,7 @@ fresh_commit words roles files name head first page file laid fresh other differ
     kind : value mid (page_at file) ≡ 1
     kind =
         stored_all_last [] (pairs_behind_file (dir_of words) head name (page_at page) first (page_at file)) words (page_at file) 1
-        (fresh_start_safe words roles files (bucket_of name) file laid.built.size (bucket_low name) other).address
+        (fresh_start_safe words roles files (bucket_of name) file laid.built.size (bucket_low name) other).reached.word
         (others_aside (page_at file) (pairs_behind_file (dir_of words) head name (page_at page) first (page_at file))
         (behind_file_at (IsOther (page_at file)) (dir_of words) head name (page_at page) first (page_at file) named.short
         (λ i within. (omega arith, λ same. differ (omega arith)))
@@ -250,7 +250,7 @@ fresh_commit words roles files name head first page file laid fresh other differ
         value_other at entry free_at mid (omega arith) (omega arith) (λ same. omega arith)
         ∙ ap (λ (ws : List Word). value ws free_at) parts
         ∙ stored_all_last ((page_word, page_at page) ∷ []) [] before free_at (entry_place (page_at page) 1)
-        (subst (λ (n : ℕ). IsAddress n free_at) (sym len) (free_entry_safe words roles files [] (bucket_of name) laid (bucket_low name)).address) tt
+        (subst (λ (n : ℕ). IsAddress n free_at) (sym len) (free_entry_safe words roles files [] (bucket_of name) laid (bucket_low name)).reached.word) tt
 
     links : (k : ℕ) → 1 ≤ k → k < 11 → value after (entry_place (page_at page) k) ≡ entry_place (page_at page) (k + 1)
     links k low high =

@@ -6,8 +6,9 @@ use Rattle.pm_words.specs.Memory.{store_at, IsAddress, IsPages}
 use Rattle.pm_words.proofs.WordLemmas.{length_store_at, word_at_stored, word_at_other, other_place}
 use Rattle.zo_layout.specs.Layout.{page_at, kernel_pages, owner_word, root_control, root_page, bucket_head, bucket_of, entry_place, first_entry_page, first_free_entry, file_map, word_of}
 use Rattle.tr_types.specs.KernelView.{pages_of, owner_of}
-use Rattle.tr_types.specs.Denotes.{value, control_of, dir_of, IsCofferPage, IsPlace, Chain, IsNamed}
+use Rattle.tr_types.specs.Denotes.{value, control_of, dir_of, page_of, IsCofferPage, IsPlace, Chain, IsNamed}
 use Rattle.zo_ops.specs.Laid.{Role, Spare, Entries, FilePage, FileAt, IsPlaceOf, HasFile, entries_in, IsBuilt, stored_all}
+use Rattle.zo_ops.specs.Reach.{IsCofferWord}
 use Rattle.zo_ops.proofs.Members.{contains_here, contains_there, contains_cases}
 
 -- The value at an address after a store.
@@ -55,6 +56,12 @@ coffer_held words new files page h c = record {
   owned = owner_held words new files page h c.inside ∙ c.owned;
 }
 
+pub word_held : (words new : List Word) (files : List FileAt) (addr : ℕ) → IsPages (length words) (pages_of words) → Held words files new → IsCofferWord words addr → IsCofferWord new addr
+word_held words new files addr size h c = record {
+  word = subst (λ (n : ℕ). IsAddress n addr) (sym h.len) c.word;
+  owned = owner_held words new files (page_of addr) h (omega (arith, size.whole, c.word.inside)) ∙ c.owned;
+}
+
 pub past_held : (words new : List Word) (files : List FileAt) (page : ℕ) → Held words files new → root_page (pages_of words) < page → root_page (pages_of new) < page
 past_held words new files page h past = subst (λ (n : ℕ). root_page n < page) (sym (pages_held h)) past
 
@@ -77,10 +84,6 @@ place_of_held words new files roles entry h p = record {
   past = past_held words new files p.page h p.past;
   role = p.role;
 }
-
--- a place of an entry page is a place of the coffer
-pub place_is : (words : List Word) (roles : ℕ → Role) (entry : ℕ) → IsPlaceOf words roles entry → IsPlace words entry
-place_is words roles entry p = record { page = p.page; place = p.place; is = p.is; twelve = p.twelve; coffers = p.coffers }
 
 -- a chain of entries whose words 0 are the same
 pub chain_held : (words new : List Word) (files : List FileAt) (at : ℕ) (entries : List ℕ) → Held words files new → ((e : ℕ) → Contains entries e → value new e ≡ value words e) → Chain words at entries → Chain new at entries
@@ -148,6 +151,8 @@ built_kept words new roles files b k =
       size = subst (λ (n : ℕ). IsPages n (n / 512)) (sym h.len) b.size;
       control = ap (λ (n : ℕ). roles (root_control n)) same ∙ b.control;
       root = ap (λ (n : ℕ). roles (root_page n)) same ∙ b.root;
+      control_coffers = subst (λ (n : ℕ). IsCofferPage new (root_control n)) (sym same) (coffer_held words new files (root_control (pages_of words)) h b.control_coffers);
+      root_coffers = subst (λ (n : ℕ). IsCofferPage new (root_page n)) (sym same) (coffer_held words new files (root_page (pages_of words)) h b.root_coffers);
       kind = ap (λ (n : ℕ). value new (page_at (root_page n))) same ∙ h.kind ∙ b.kind;
       no_intent = ap (λ (n : ℕ). value new (word_of (page_at (root_control n)) 3)) same ∙ h.no_intent ∙ b.no_intent;
       heads = λ i lt. subst (λ (at : ℕ). Chain new at (entries_in i files))
@@ -357,6 +362,10 @@ aside_take : (words : List Word) (roles : ℕ → Role) (files : List FileAt) (k
 aside_take words roles files zero pairs all = tt
 aside_take words roles files (suc k) [] all = tt
 aside_take words roles files (suc k) (p ∷ ps) all = (all.0, aside_take words roles files k ps all.1)
+
+-- any number of them keep all that files are read from
+pub all_held : (words : List Word) (roles : ℕ → Role) (files : List FileAt) (pairs : List (ℕ × ℕ)) → IsBuilt words roles files → AllAside words roles files pairs → (k : ℕ) → Held words files (stored_all (take k pairs) words)
+all_held words roles files pairs b all k = (stored_kept words roles files (take k pairs) b (aside_take words roles files k pairs all)).held
 
 -- after any number of them the same tree is read
 pub all_kept : (words : List Word) (roles : ℕ → Role) (files : List FileAt) (pairs : List (ℕ × ℕ)) → IsBuilt words roles files → AllAside words roles files pairs → (k : ℕ) → IsBuilt (stored_all (take k pairs) words) roles files

@@ -1,5 +1,7 @@
 -- what it is to be among a list
 pub mod Members
+-- where words of the root coffer lie
+pub mod Places
 -- the names of a path of one name
 pub mod NameLaws
 -- what stands in the tree of some files
@@ -30,14 +32,10 @@ pub mod CommitLaws
 pub mod FreeSpotLaws
 -- a file whose entry stands in a fresh entry page
 pub mod FreshSpotLaws
--- where words of entries lie
-pub mod EntryPlaces
 -- a look along a bucket
 pub mod LookLemmas
 -- a count along all buckets
 pub mod CountLemmas
--- where words of the root coffer lie
-pub mod Places
 -- what a call gives with a load
 pub mod LoadSteps
 -- what the spot of a new file keeps, and its commit
@@ -46,6 +44,8 @@ pub mod SpotLaws
 pub mod StoreSteps
 -- what a call gives with its reply
 pub mod ReplySteps
+-- what a call knows that begins
+pub mod BeginLaws
 -- what comes after an answer, exit by exit
 pub mod CallExits
 -- what a call gives that asks for pages

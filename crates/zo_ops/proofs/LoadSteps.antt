@@ -1,20 +1,19 @@
 -- What a call gives with a load: the words and the tree stay, and the call knows the word.
-use Rattle.std.proofs.Common.{◌≡◌, ℕ, List, None, Bool, true, refl, sym, subst, length, eq-eqb}
+use Rattle.std.proofs.Common.{◌≡◌, ℕ, List, None, Bool, true, refl, sym, subst, eq-eqb}
 use Rattle.pm_words.specs.Word.{Word}
-use Rattle.pm_words.specs.Memory.{IsAddress}
-use Rattle.tr_types.specs.Machine.{Answers}
 use Rattle.tr_types.specs.Tree.{Member}
 use Rattle.tr_types.specs.Denotes.{value, Denotes}
 use Rattle.tr_types.specs.World.{Phase, Runs, drained_after, pool_of}
 use Rattle.tr_types.specs.declared.action.Action.TheVariants.{Load}
 use Rattle.tr_types.specs.declared.action.Answer.{Answer}
 use Rattle.tr_types.specs.declared.action.Answer.TheVariants.{Word as WordIs, Done, Fault, Kern}
-use Rattle.tr_types.specs.declared.action.FaultKind.TheVariants.{NotMapped, NotWritable, KeyDenied}
 use Rattle.tr_types.specs.declared.command.Command.{Command}
 use Rattle.tr_types.specs.declared.entry.Mark.TheVariants.{Plain}
 use Rattle.zo_ops.specs.declared.call.Coffer.{Coffer}
 use Rattle.zo_ops.specs.declared.call.Next.TheVariants as next
 use Rattle.zo_ops.specs.declared.call.Stage.{Stage}
+use Rattle.zo_ops.specs.Permitted.{Answers}
+use Rattle.zo_ops.specs.Reach.{IsCofferWord}
 use Rattle.zo_ops.specs.Knows.{Ground, Goes, NextGives, StageKnows, IsRunning}
 use Rattle.zo_ops.proofs.DenoteLaws.{built_denotes}
 
@@ -22,26 +21,30 @@ use Rattle.zo_ops.proofs.DenoteLaws.{built_denotes}
 pub ground_denotes : (coffer : Coffer) (words : List Word) (tree : List Member) → Ground coffer words tree → Denotes words tree
 ground_denotes coffer words tree k = subst (Denotes words) (sym k.tree_is) (built_denotes words k.roles k.files k.laid.built)
 
-module _ (coffer : Coffer) (command : Command) (addr : ℕ) (stage : Stage) (words : List Word) (tree : List Member) (drained : Bool) (inside : IsAddress (length words) addr) (denotes : Denotes words tree) where
-  loaded_goes : (phase : Phase) → phase ≡ Runs command drained None → (knows : StageKnows coffer command stage (WordIs (value words addr)) words tree (Runs command (drained_after (pool_of words) drained (Load addr) (WordIs (value words addr))) None)) → (answer : Answer) → Answers words (Load addr) answer → Goes coffer command stage Plain (Load addr) words tree phase answer
-  loaded_goes phase is knows (WordIs x) a = subst (λ p. Goes coffer command stage Plain (Load addr) words tree p (WordIs x)) (sym is) (record {
+module _ (coffer : Coffer) (command : Command) (addr : ℕ) (stage : Stage) (words : List Word) (tree : List Member) (drained : Bool) (reached : IsCofferWord words addr) (denotes : Denotes words tree) where
+  loaded_goes : (phase : Phase) → phase ≡ Runs command drained None → (knows : StageKnows coffer command stage (WordIs (value words addr)) words tree (Runs command (drained_after (pool_of words) drained (Load addr) (WordIs (value words addr))) None)) → (answer : Answer) → Answers words (Load addr) answer → Goes (StageKnows coffer command stage) Plain (Load addr) words tree phase answer
+  loaded_goes phase is knows (WordIs x) a = subst (λ p. Goes (StageKnows coffer command stage) Plain (Load addr) words tree p (WordIs x)) (sym is) (record {
     legal = tt;
     denotes = denotes;
     knows = subst (λ y. StageKnows coffer command stage (WordIs y) words tree (Runs command (drained_after (pool_of words) drained (Load addr) (WordIs y)) None)) (sym a.1) knows;
   })
   loaded_goes phase is knows Done a = absurd a
-  loaded_goes phase is knows (Fault NotMapped) a = absurd (a inside)
-  loaded_goes phase is knows (Fault NotWritable) a = absurd a
-  loaded_goes phase is knows (Fault KeyDenied) a = absurd a
+  loaded_goes phase is knows (Fault kind) a = absurd a
   loaded_goes phase is knows (Kern answer) a = absurd a
 
   -- a load of any word
   pub load_gives : (phase : Phase) → phase ≡ Runs command drained None → ((p : Phase) → IsRunning command p → StageKnows coffer command stage (WordIs (value words addr)) words tree p) → NextGives coffer command (next.Act (Load addr) stage) words tree phase
-  load_gives phase is knows = loaded_goes phase is (knows _ (drained_after (pool_of words) drained (Load addr) (WordIs (value words addr)), refl))
+  load_gives phase is knows = record {
+    reachable = reached;
+    goes = loaded_goes phase is (knows _ (drained_after (pool_of words) drained (Load addr) (WordIs (value words addr)), refl));
+  }
 
   -- a load of the pool's head, which shows no page
   pub pool_gives : (phase : Phase) → phase ≡ Runs command drained None → addr ≡ pool_of words → value words addr ≡ 0 → StageKnows coffer command stage (WordIs (value words addr)) words tree (Runs command true None) → NextGives coffer command (next.Act (Load addr) stage) words tree phase
-  pool_gives phase is pool empty knows = loaded_goes phase is (subst (λ d. StageKnows coffer command stage (WordIs (value words addr)) words tree (Runs command d None)) (sym shown) knows)
+  pool_gives phase is pool empty knows = record {
+    reachable = reached;
+    goes = loaded_goes phase is (subst (λ d. StageKnows coffer command stage (WordIs (value words addr)) words tree (Runs command d None)) (sym shown) knows);
+  }
     where
       shown : drained_after (pool_of words) drained (Load addr) (WordIs (value words addr)) ≡ true
       shown = rw (eq-eqb addr (pool_of words) pool, eq-eqb (value words addr) 0 empty) refl

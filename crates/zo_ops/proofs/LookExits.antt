@@ -97,7 +97,7 @@ module _ (coffer : Coffer) (command : Command) (look after : Lookup) (answer : A
   pub look_load_gives : (addr : ℕ) → after.dir ≡ look.dir → result ≡ look_step.Load addr → AfterKnowing coffer command Known (next.Act (Load addr) (stage.Looking after))
   look_load_gives addr same is valid words tree phase (k, knows, dir, some, (drained, runs)) =
       let g = subst (LookGives after (name_of command) words k.files) is (kept valid words tree phase (k, knows, dir, some, (drained, runs))) in
-      load_gives coffer command addr _ words tree drained g.0 (ground_denotes coffer words tree k) phase runs (λ p r. (k, g.1, same ∙ dir, some, r))
+      load_gives coffer command addr (stage.Looking after) words tree drained g.0 (ground_denotes coffer words tree k) phase runs (λ p r. (k, g.1, same ∙ dir, some, r))
 
   pub look_found_gives : (target from : ℕ) (n : Next) → result ≡ look_step.Found target from → AfterKnowing coffer command (FindKnows coffer command target) n → AfterKnowing coffer command Known n
   look_found_gives target from n is finds valid words tree phase (k, knows, dir, some, runs) =
@@ -127,7 +127,7 @@ module _ (coffer : Coffer) (command : Command) (count after : Count) (answer : A
   pub count_load_gives : (addr : ℕ) → after.dir ≡ count.dir → result ≡ count_step.Load addr → AfterKnowing coffer command Counted (next.Act (Load addr) (stage.Counting after))
   count_load_gives addr same is valid words tree phase (k, knows, dir, root, stat, (drained, runs)) =
       let g = subst (CountGives after words k.files) is (counts words tree phase (k, knows, dir, root, stat, (drained, runs))) in
-      load_gives coffer command addr _ words tree drained g.0 (ground_denotes coffer words tree k) phase runs (λ p r. (k, g.1, same ∙ dir, root, stat, r))
+      load_gives coffer command addr (stage.Counting after) words tree drained g.0 (ground_denotes coffer words tree k) phase runs (λ p r. (k, g.1, same ∙ dir, root, stat, r))
 
   pub count_over_gives : (names : ℕ) → result ≡ count_step.Counted names → AfterKnowing coffer command Counted (next.Over (Info Dir names 0 0 438))
   count_over_gives names is valid words tree phase (k, knows, dir, root, stat, runs) =

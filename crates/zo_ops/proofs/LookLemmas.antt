@@ -3,15 +3,15 @@ use Rattle.std.proofs.Common.{◌≡◌, ◌≢◌, ℕ, ◌+◌, ◌*◌, ◌/�
 use Rattle.std.proofs.lemmas.Bool.{eq-eqb, cases_lt}
 use Rattle.std.proofs.lemmas.List.{same_lists, get_or-take, get_or-drop, get_or_default, length-take, length-drop}
 use Rattle.pm_words.specs.Word.{Word}
-use Rattle.pm_words.specs.Memory.{IsAddress}
 use Rattle.zo_layout.specs.Layout.{page_at, bucket_head, bucket_of, entry_target, name_length, name_word}
 use Rattle.tr_types.specs.Denotes.{value, dir_of, Chain, IsNamed, IsPlace}
-use Rattle.zo_ops.specs.Laid.{Role, FileAt, IsBuilt, IsPlaceOf, entries_in}
+use Rattle.zo_ops.specs.Laid.{Role, FileAt, IsBuilt, entries_in}
 use Rattle.tr_types.specs.declared.action.Answer.{Answer}
 use Rattle.zo_ops.specs.declared.lookup.Asked.{Asked as LookAsked}
 use Rattle.zo_ops.specs.Looking.{Walks, Agrees, IsEntryOf, LookKnowsAt}
 use Rattle.zo_ops.proofs.Members.{contains_here, contains_there, contains_cases, contains_none}
-use Rattle.zo_ops.proofs.EntryPlaces.{entry_word, entry_some}
+use Rattle.zo_ops.specs.Reach.{IsCofferWord}
+use Rattle.zo_ops.proofs.Places.{entry_word, entry_some, place_is}
 
 -- lists and what they contain
 
@@ -49,10 +49,6 @@ entries_of_files bucket (f ∷ files) = by (bucket_of f.name == bucket) (entries
         → (if b then f.entry ∷ entries_in bucket files else entries_in bucket files) ≡ map (λ g. g.entry) (cond b (f ∷ files_in bucket files) (files_in bucket files))
     by true e = ap (λ (es : List ℕ). f.entry ∷ es) e
     by false e = e
-
--- a file's place, and that its words have addresses
-pub place_of_file : (words : List Word) (roles : ℕ → Role) (entry : ℕ) → IsPlaceOf words roles entry → IsPlace words entry
-place_of_file words roles entry p = record { page = p.page; place = p.place; is = p.is; twelve = p.twelve; coffers = p.coffers }
 
 -- the walk begins at the bucket's head
 pub walks_first : (words : List Word) (roles : ℕ → Role) (files : List FileAt) (name : List ℕ) → IsBuilt words roles files
@@ -109,7 +105,7 @@ walks_end words name files head w f h is = by w.left w.chain (w.kept f h is)
 -- the entry's file is a place, with its name
 pub at_place : (words : List Word) (roles : ℕ → Role) (files : List FileAt) (name : List ℕ) (head entry : ℕ) → IsBuilt words roles files → IsAt words name files head entry → IsPlace words entry
 at_place words roles files name head entry built a =
-    subst (IsPlace words) a.is (place_of_file words roles a.file.entry (built.each a.file a.stands).place)
+    subst (IsPlace words) a.is (place_is words roles a.file.entry (built.each a.file a.stands).place)
 
 pub at_named : (words : List Word) (roles : ℕ → Role) (files : List FileAt) (name : List ℕ) (head entry : ℕ) → IsBuilt words roles files → (a : IsAt words name files head entry) → IsNamed words entry a.file.name
 at_named words roles files name head entry built a =
@@ -123,9 +119,9 @@ one_name words entry name other a b =
     let low' : k < length other = omega arith in
     get_or_default name k d 0 low ∙ a.letters k low ∙ sym (b.letters k low') ∙ get_or_default other k 0 d low')
 
--- an entry of 255 letters at most has their words
+-- an entry of 255 letters at most has their words, in the coffer
 pub name_word_address : (words : List Word) (roles : ℕ → Role) (files : List FileAt) (name : List ℕ) (head entry i : ℕ) → IsBuilt words roles files
-    → IsAt words name files head entry → value words (name_length entry) ≡ length name → 8 * i < length name → IsAddress (length words) (name_word entry i) × (i < 32)
+    → IsAt words name files head entry → value words (name_length entry) ≡ length name → 8 * i < length name → IsCofferWord words (name_word entry i) × (i < 32)
 name_word_address words roles files name head entry i built a len low =
     let short : length a.file.name ≤ 255 = (built.each a.file a.stands).short in
     let long : value words (name_length entry) ≡ length a.file.name = (at_named words roles files name head entry built a).len in

@@ -1,14 +1,14 @@
 -- How the words of a new image lie: no file, no free entry, and nothing but zeros past the kernel's pages.
-use Rattle.std.proofs.Common.{◌≡◌, ◌⊎◌, inl, inr, ℕ, ◌+◌, ◌*◌, ◌/◌, ◌%◌, ◌<◌, ◌≤◌, Bool, false, cond, if◌then◌else◌, ◌==◌, List, [], length, refl, sym, ap, subst, ◌∙◌, arith, eq-eqb, ne_eqb}
-use Rattle.std.proofs.lemmas.Bool.{cond-false, le-ltb, cases_lt}
+use Rattle.std.proofs.Common.{◌≡◌, ◌⊎◌, inl, inr, ℕ, ◌+◌, ◌-◌, ◌*◌, ◌/◌, ◌%◌, ◌<◌, ◌≤◌, Bool, true, false, cond, if◌then◌else◌, ◌==◌, List, [], length, refl, sym, ap, subst, ◌∙◌, arith, eq-eqb, ne_eqb}
+use Rattle.std.proofs.lemmas.Bool.{cond-true, cond-false, lt-ltb, le-ltb, cases_lt}
 use Rattle.std.proofs.lemmas.List.FromFn.{get_or-map-range_with_len, length-map-range_with_len}
 use Rattle.pm_words.specs.Word.{Word}
 use Rattle.pm_words.specs.Memory.{all_durable, IsPages}
 use Rattle.pm_words.proofs.WordLemmas.{word_at_all_durable}
-use Rattle.zo_layout.specs.Layout.{page_at, word_of, kernel_pages, owner_table, coffer_table, bucket_page, root_control, root_page, bucket_head, first_free_entry, pool_head}
-use Rattle.tr_types.specs.NewImage.{new_image, new_word, word_in_page}
+use Rattle.zo_layout.specs.Layout.{page_at, word_of, kernel_pages, owner_word, owner_table, coffer_table, bucket_page, root_control, root_page, bucket_head, first_free_entry, pool_head}
+use Rattle.tr_types.specs.NewImage.{new_image, new_word, word_in_page, owner_table_word, owner_in_new}
 use Rattle.tr_types.specs.KernelView.{pages_of, owner_of}
-use Rattle.tr_types.specs.Denotes.{value}
+use Rattle.tr_types.specs.Denotes.{value, IsCofferPage}
 use Rattle.zo_ops.specs.Laid.{Role, Spare, Control, Root, IsBuilt, IsLaid}
 use Rattle.tr_types.proofs.FreePages.{pages_are, size_opened, free_in_new}
 use Rattle.zo_ops.proofs.Members.{contains_none}
@@ -41,6 +41,22 @@ pub zero_new : (pages page addr : ℕ) → kernel_pages pages ≤ page → page 
 zero_new pages page addr past lt low high =
     value_new pages addr (omega arith)
     ∙ zero_in_page pages (addr / 8 / 512) (addr / 8 % 512) (omega arith)
+
+-- Owners.
+
+third : (a b c : Bool) (v w x last : ℕ) → a ≡ false → b ≡ false → c ≡ true → cond a v (cond b w (cond c x last)) ≡ x
+third a b c v w x last ea eb ec = cond-false a v _ ea ∙ cond-false b w _ eb ∙ cond-true c x last ec
+
+owner_in_table : (pages page at i : ℕ) → page < pages → at ≡ owner_table pages + page / 512 → i ≡ page % 512 → word_in_page pages at i ≡ owner_in_new pages page
+owner_in_table pages page at i lt at_is i_is =
+    let place : 512 * (at - owner_table pages) + i ≡ page = omega arith in
+    third _ _ _ _ _ _ _ (ne_eqb at 0 (λ e. omega arith)) (le-ltb at (owner_table pages) (omega arith)) (lt-ltb at (coffer_table pages) (omega arith))
+    ∙ ap (owner_table_word pages) place
+    ∙ cond-true _ (owner_in_new pages page) 0 (lt-ltb page pages lt)
+
+-- the first two pages past the kernel's are the root coffer's
+owner_root : (pages page : ℕ) → kernel_pages pages ≤ page → page < kernel_pages pages + 2 → owner_in_new pages page ≡ 1
+owner_root pages page past lt = cond-false _ 65535 _ (le-ltb page (kernel_pages pages) past) ∙ cond-true _ 1 0 (lt-ltb page (kernel_pages pages + 2) lt)
 
 -- The roles of the pages.
 
@@ -88,11 +104,23 @@ module _ (pages : ℕ) (least : 64 ≤ pages) (most : pages ≤ 16384) where
       by (inl below) = absurd ((free_in_new pages least most).taken page below nobody)
       by (inr above) = omega arith
 
+  -- the control page or the root page
+  coffer_page : (at : ℕ → ℕ) → kernel_pages pages ≤ at pages → at pages < kernel_pages pages + 2 → IsCofferPage image (at (pages_of image))
+  coffer_page at past lt = subst (λ (n : ℕ). IsCofferPage image (at n)) (sym count) (record {
+    inside = omega (arith, count, fits);
+    owned = ap (λ (n : ℕ). value image (owner_word n (at pages))) count
+        ∙ value_new pages (owner_word pages (at pages)) (omega (arith, fits))
+        ∙ owner_in_table pages (at pages) (owner_word pages (at pages) / 8 / 512) (owner_word pages (at pages) / 8 % 512) (omega (arith, fits)) (omega (arith, fits)) (omega arith)
+        ∙ owner_root pages (at pages) past lt;
+  })
+
   built_new : IsBuilt image (roles_in_new pages) []
   built_new = record {
     size = subst (IsPages (length image)) (sym count) (size_opened pages least most);
     control = ap (λ (n : ℕ). roles_in_new pages (root_control n)) count ∙ role_control pages;
     root = ap (λ (n : ℕ). roles_in_new pages (root_page n)) count ∙ role_root pages;
+    control_coffers = coffer_page root_control (omega arith) (omega arith);
+    root_coffers = coffer_page root_page (omega arith) (omega arith);
     kind = zero_in_root (λ n. page_at (root_page n)) (omega arith) (omega arith);
     no_intent = zero_in_root (λ n. word_of (page_at (root_control n)) 3) (omega arith) (omega arith);
     heads = λ b lt. zero_in_root (λ n. bucket_head (page_at (root_page n)) b) (omega arith) (omega arith);

@@ -1,8 +1,8 @@
 -- The stores of a plan keep what the tree is read from, and its commit makes the file.
-use Rattle.std.proofs.Common.{◌≡◌, ◌≢◌, ℕ, zero, suc, ◌/◌, ◌<◌, ◌≤◌, List, [], ◌∷◌, length, take, drop, get_or, slice_index, sym, ap, subst, ◌∙◌, arith}
+use Rattle.std.proofs.Common.{◌≡◌, ◌≢◌, ℕ, zero, suc, ◌/◌, ◌<◌, ◌≤◌, List, [], ◌∷◌, length, take, drop, get_or, slice_index, refl, sym, ap, subst, ◌∙◌, arith}
 use Rattle.std.proofs.lemmas.List.Elements.{All-get_or}
 use Rattle.pm_words.specs.Word.{Word}
-use Rattle.pm_words.specs.Memory.{IsAddress, store_at}
+use Rattle.pm_words.specs.Memory.{store_at}
 use Rattle.pm_words.proofs.WordLemmas.{length_store_at}
 use Rattle.zo_layout.specs.Layout.{page_at, root_control, root_page, bucket_head, bucket_of, entry_place}
 use Rattle.tr_types.specs.Tree.{Member, tree_after, IsChange}
@@ -14,23 +14,27 @@ use Rattle.zo_ops.specs.declared.plan.Spot.{Spot}
 use Rattle.zo_ops.specs.declared.plan.Spot.TheVariants.{Free, Fresh}
 use Rattle.tr_types.specs.Commands.{IsCommand, IsPathOfOne, IsNameByte}
 use Rattle.zo_ops.specs.Laid.{Role, FileAt, tree_of, IsBuilt, IsLaid, stored_all}
+use Rattle.zo_ops.specs.Reach.{IsCofferWord}
 use Rattle.zo_ops.specs.Knows.{Ground, Links, IsSpot, AreDrawn, IsCreate, IsMissing, spot_pairs, spot_entry, name_of}
+use Rattle.zo_ops.proofs.Places.{head_reached}
+use Rattle.zo_ops.proofs.KeepLaws.{word_held}
 use Rattle.zo_ops.proofs.PlanLemmas.{length_stored_all}
 use Rattle.zo_ops.proofs.PairLaws.{AllAt}
-use Rattle.zo_ops.proofs.CommitLaws.{IsSafe, head_address, head_behind}
-use Rattle.zo_ops.proofs.FreeSpotLaws.{IsNewName, bucket_low, free_aside, safe_kept, free_commit}
+use Rattle.zo_ops.proofs.CommitLaws.{IsSafe, head_behind}
+use Rattle.zo_ops.proofs.FreeSpotLaws.{IsNewName, bucket_low, free_aside, safe_kept, safe_held, free_commit}
 use Rattle.zo_ops.proofs.FreshSpotLaws.{fresh_aside, fresh_commit, places_from}
 use Rattle.zo_ops.proofs.TreeLaws.{tree_grows}
 use Rattle.zo_ops.proofs.ReplySteps.{change_is_due}
 
 -- the store of a pair reaches a word of the coffer that is no bucket head of the name
 pub record IsApart (words : List Word) (head_at : ℕ) (pair : ℕ × ℕ) : Type 0 where
-  pub inside : IsAddress (length words) pair.0
+  pub reached : IsCofferWord words pair.0
   pub past : control_of words ≤ pair.0
   pub aside : pair.0 ≢ head_at
 
 pub record PlanKeeps (words : List Word) (roles : ℕ → Role) (files : List FileAt) (head_at : ℕ) (pairs : List (ℕ × ℕ)) : Type 0 where
   pub built : (k : ℕ) → k ≤ length pairs → IsBuilt (stored_all (take k pairs) words) roles files
+  pub stays : (k : ℕ) → k ≤ length pairs → (addr : ℕ) → IsCofferWord words addr → IsCofferWord (stored_all (take k pairs) words) addr
   pub apart : (i : ℕ) (pair : ℕ × ℕ) → i < length pairs → pair ≡ get_or pairs i pair → IsApart words head_at pair
 
 pub change_of : (coffer : Coffer) (command : Command) (head : ℕ) (base : List Word) (tree : List Member) → Links coffer command head base tree → IsCommand command → IsChange tree command
@@ -105,9 +109,11 @@ module _ (coffer : Coffer) (command : Command) (head : ℕ) (spot : Spot) (pages
       let safe = spot_safe base links.ground.roles links.ground.files links.ground.frees (name_of command) head spot pages links.ground.laid named.short at drawn in
       record {
         built = λ k most. safe_kept base links.ground.roles links.ground.files (bucket_head (dir_of base) (bucket_of (name_of command))) (spot_pairs (dir_of base) head (name_of command) spot pages) links.ground.laid.built safe k;
+        stays = λ k most addr c. word_held base (stored_all (take k (spot_pairs (dir_of base) head (name_of command) spot pages)) base) links.ground.files addr links.ground.laid.built.size
+            (safe_held base links.ground.roles links.ground.files (bucket_head (dir_of base) (bucket_of (name_of command))) (spot_pairs (dir_of base) head (name_of command) spot pages) links.ground.laid.built safe k) c;
         apart = λ i pair lt is.
             let one = at_pair (IsSafe base links.ground.roles links.ground.files (bucket_head (dir_of base) (bucket_of (name_of command)))) (spot_pairs (dir_of base) head (name_of command) spot pages) i pair safe lt is in
-            record { inside = one.address; past = one.behind; aside = one.no_head };
+            record { reached = one.reached; past = one.behind; aside = one.no_head };
       }
 
   pub spot_commits : Ground coffer (store_at (bucket_head (dir_of base) (bucket_of (name_of command))) (spot_entry spot pages) (stored_all (spot_pairs (dir_of base) head (name_of command) spot pages) base)) (tree_after tree command)
@@ -125,8 +131,8 @@ module _ (coffer : Coffer) (command : Command) (head : ℕ) (spot : Spot) (pages
         dir = links.ground.dir ∙ ap (λ (n : ℕ). page_at (root_page (n / 512))) (sym same);
       }
 
-  pub head_inside : IsAddress (length base) (bucket_head (dir_of base) (bucket_of (name_of command)))
-  head_inside = head_address base (bucket_of (name_of command)) links.ground.laid.built.size (bucket_low (name_of command))
+  pub commit_reached : IsCofferWord base (bucket_head (dir_of base) (bucket_of (name_of command)))
+  commit_reached = head_reached base links.ground.roles links.ground.files (dir_of base) (bucket_of (name_of command)) links.ground.laid.built refl (bucket_low (name_of command))
 
   pub head_past : control_of base ≤ bucket_head (dir_of base) (bucket_of (name_of command))
   head_past = head_behind base (bucket_of (name_of command))

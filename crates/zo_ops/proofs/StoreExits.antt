@@ -97,8 +97,8 @@ module _ (coffer : Coffer) (command : Command) (run after : PlanRun) (same : run
   none_gives is valid words tree phase (inr s) = made_gives coffer command run words tree phase s
 
 -- a plan that begins
-pub begin_knows : (coffer : Coffer) (command : Command) (head : ℕ) (spot : Spot) (pages : List ℕ) (run : PlanRun) (dir : ℕ) → dir ≡ coffer.dir.at → run.made ≡ 0 → run.plan.prepares.items ≡ spot_pairs dir head (name_of command) spot pages → run.plan.commit ≡ commit_pair dir (name_of command) (spot_entry spot pages) → (words : List Word) (tree : List Member) (phase : Phase) → FillKnows coffer command head spot pages words tree phase → RunKnows coffer command run words tree phase
-begin_knows coffer command head spot pages run dir at none pairs commit words tree phase (k, is, drawn, runs) = inl (record {
+pub plan_begins : (coffer : Coffer) (command : Command) (head : ℕ) (spot : Spot) (pages : List ℕ) (run : PlanRun) (dir : ℕ) → dir ≡ coffer.dir.at → run.made ≡ 0 → run.plan.prepares.items ≡ spot_pairs dir head (name_of command) spot pages → run.plan.commit ≡ commit_pair dir (name_of command) (spot_entry spot pages) → (words : List Word) (tree : List Member) (phase : Phase) → FillKnows coffer command head spot pages words tree phase → RunKnows coffer command run words tree phase
+plan_begins coffer command head spot pages run dir at none pairs commit words tree phase (k, is, drawn, runs) = inl (record {
   base = words;
   head = head;
   spot = spot;

@@ -4,10 +4,8 @@ use Rattle.std.proofs.lemmas.Bool.{ne_eqb}
 use Rattle.std.proofs.lemmas.List.{take_more, take_all}
 use Rattle.std.proofs.lemmas.List.Sums.{fold-append}
 use Rattle.pm_words.specs.Word.{Word}
-use Rattle.pm_words.specs.Memory.{IsAddress, store_at}
-use Rattle.pm_words.proofs.WordLemmas.{length_store_at}
+use Rattle.pm_words.specs.Memory.{store_at}
 use Rattle.zo_layout.specs.Layout.{bucket_head, bucket_of}
-use Rattle.tr_types.specs.Machine.{Answers}
 use Rattle.tr_types.specs.Marks.{mark_of}
 use Rattle.tr_types.specs.Tree.{Member, tree_after, reply_to, IsChange}
 use Rattle.tr_types.specs.Denotes.{Denotes, dir_of, control_of}
@@ -15,7 +13,6 @@ use Rattle.tr_types.specs.World.{Phase, Runs, Committed}
 use Rattle.tr_types.specs.declared.action.Action.TheVariants.{Store}
 use Rattle.tr_types.specs.declared.action.Answer.{Answer}
 use Rattle.tr_types.specs.declared.action.Answer.TheVariants.{Word as WordIs, Done, Fault, Kern}
-use Rattle.tr_types.specs.declared.action.FaultKind.TheVariants.{NotMapped, NotWritable, KeyDenied}
 use Rattle.tr_types.specs.declared.command.Command.{Command}
 use Rattle.tr_types.specs.declared.command.Command.TheVariants.{Create, Stat}
 use Rattle.tr_types.specs.declared.command.Reply.TheVariants.{Made}
@@ -26,19 +23,19 @@ use Rattle.zo_ops.specs.declared.call.Stage.TheVariants as stage
 use Rattle.zo_ops.specs.declared.plan.PlanRun.{PlanRun}
 use Rattle.tr_types.specs.Commands.{IsCommand}
 use Rattle.zo_ops.specs.Laid.{IsBuilt, stored_all}
-use Rattle.zo_ops.specs.Knows.{Ground, Goes, NextGives, Prepares, IsCreate, name_of, spot_pairs, spot_entry}
+use Rattle.zo_ops.specs.Permitted.{Answers}
+use Rattle.zo_ops.specs.Reach.{IsCofferWord}
+use Rattle.zo_ops.specs.Knows.{Ground, Goes, NextGives, StageKnows, Prepares, IsCreate, name_of, spot_pairs, spot_entry}
 use Rattle.zo_ops.proofs.DenoteLaws.{built_denotes}
 use Rattle.zo_ops.proofs.LoadSteps.{ground_denotes}
-use Rattle.zo_ops.proofs.SpotLaws.{PlanKeeps, IsApart, spot_keeps, spot_commits, head_inside, head_past, change_of}
+use Rattle.zo_ops.proofs.SpotLaws.{PlanKeeps, IsApart, spot_keeps, spot_commits, commit_reached, head_past, change_of}
 
--- a store that is possible is done
-done_only : (P : Answer → Type 0) (words : List Word) (addr x : ℕ) → IsAddress (length words) addr → P Done → (answer : Answer) → Answers words (Store addr x) answer → P answer
-done_only P words addr x inside p (WordIs y) a = absurd a
-done_only P words addr x inside p Done a = p
-done_only P words addr x inside p (Fault NotMapped) a = absurd (a inside)
-done_only P words addr x inside p (Fault NotWritable) a = absurd a
-done_only P words addr x inside p (Fault KeyDenied) a = absurd a
-done_only P words addr x inside p (Kern answer) a = absurd a
+-- a permitted store is done
+done_only : (P : Answer → Type 0) (words : List Word) (addr x : ℕ) → P Done → (answer : Answer) → Answers words (Store addr x) answer → P answer
+done_only P words addr x p (WordIs y) a = absurd a
+done_only P words addr x p Done a = p
+done_only P words addr x p (Fault kind) a = absurd a
+done_only P words addr x p (Kern answer) a = absurd a
 
 -- a store to any word but the head of the name's bucket is plain, and that one is the commit
 mark_plain : (dir : ℕ) (command : Command) (addr x : ℕ) → IsCreate command → addr ≢ bucket_head dir (bucket_of (name_of command)) → mark_of dir command (Store addr x) ≡ Plain
@@ -53,10 +50,6 @@ stored_more : (pairs : List (ℕ × ℕ)) (i : ℕ) (pair : ℕ × ℕ) (words :
 stored_more pairs i pair words lt at =
     ap (λ (l : List (ℕ × ℕ)). stored_all l words) (take_more pairs i pair lt ∙ ap (λ p. take i pairs ++ p ∷ []) (sym at))
     ∙ fold-append (λ (now : List Word) (p : ℕ × ℕ). store_at p.0 p.1 now) words (take i pairs) (pair ∷ [])
-
-length_stored : (pairs : List (ℕ × ℕ)) (words : List Word) → length (stored_all pairs words) ≡ length words
-length_stored [] words = refl
-length_stored (pair ∷ pairs) words = length_stored pairs (store_at pair.0 pair.1 words) ∙ length_store_at pair.0 pair.1 words
 
 -- a change's reply
 reply_made : (tree : List Member) (command : Command) → IsChange tree command → reply_to tree command ≡ Made
@@ -73,18 +66,25 @@ module _ (coffer : Coffer) (command : Command) (run after : PlanRun) (at : ℕ) 
   keeps : PlanKeeps k.base k.links.ground.roles k.links.ground.files (bucket_head (dir_of k.base) (bucket_of (name_of command))) run.plan.prepares.items
   keeps = subst (PlanKeeps k.base k.links.ground.roles k.links.ground.files (bucket_head (dir_of k.base) (bucket_of (name_of command)))) (sym k.pairs) (spot_keeps coffer command k.head k.spot k.pages k.base tree k.links valid k.spot_is k.drawn)
 
+  -- a word of the coffer is one still
+  kept_word : (addr : ℕ) → IsCofferWord k.base addr → IsCofferWord words addr
+  kept_word addr c = subst (λ w. IsCofferWord w addr) (sym k.words_are) (keeps.stays run.made k.made addr c)
+
   -- a preparing store lies at the control page or past it
   pub prepare_past : (pair : ℕ × ℕ) → run.made < length run.plan.prepares.items → pair ≡ get_or run.plan.prepares.items run.made pair → coffer.control.at ≤ pair.0
   prepare_past pair lt is = subst (λ n. n ≤ pair.0) (sym k.links.ground.control) (keeps.apart run.made pair lt is).past
 
   pub prepare_gives : (pair : ℕ × ℕ) → run.made < length run.plan.prepares.items → pair ≡ get_or run.plan.prepares.items run.made pair → NextGives coffer command (next.Act (Store pair.0 pair.1) (stage.Storing after at)) words tree phase
-  prepare_gives pair lt is = done_only _ words pair.0 pair.1 inside (subst (λ m. Goes coffer command (stage.Storing after at) m (Store pair.0 pair.1) words tree phase Done) (sym plain) (subst (λ p. Goes coffer command (stage.Storing after at) Plain (Store pair.0 pair.1) words tree p Done) (sym k.phase_is) goes))
+  prepare_gives pair lt is = record {
+    reachable = reached;
+    goes = done_only _ words pair.0 pair.1 (subst (λ m. Goes (StageKnows coffer command (stage.Storing after at)) m (Store pair.0 pair.1) words tree phase Done) (sym plain) (subst (λ p. Goes (StageKnows coffer command (stage.Storing after at)) Plain (Store pair.0 pair.1) words tree p Done) (sym k.phase_is) goes));
+  }
     where
       apart : IsApart k.base (bucket_head (dir_of k.base) (bucket_of (name_of command))) pair
       apart = keeps.apart run.made pair lt is
 
-      inside : IsAddress (length words) pair.0
-      inside = subst (λ n. IsAddress n pair.0) (sym (ap length k.words_are ∙ length_stored (take run.made run.plan.prepares.items) k.base)) apart.inside
+      reached : IsCofferWord words pair.0
+      reached = kept_word pair.0 apart.reached
 
       plain : mark_of coffer.dir.at command (Store pair.0 pair.1) ≡ Plain
       plain = mark_plain coffer.dir.at command pair.0 pair.1 k.links.create (subst (λ d. pair.0 ≢ bucket_head d (bucket_of (name_of command))) (sym k.links.ground.dir) apart.aside)
@@ -96,7 +96,7 @@ module _ (coffer : Coffer) (command : Command) (run after : PlanRun) (at : ℕ) 
       few : after.made ≤ length after.plan.prepares.items
       few = omega (arith, same.made, ap length same.prepares)
 
-      goes : Goes coffer command (stage.Storing after at) Plain (Store pair.0 pair.1) words tree (Runs command true None) Done
+      goes : Goes (StageKnows coffer command (stage.Storing after at)) Plain (Store pair.0 pair.1) words tree (Runs command true None) Done
       goes = record {
         legal = tt;
         denotes = subst (λ w. Denotes w tree) (sym stored) (subst (Denotes (stored_all (take after.made after.plan.prepares.items) k.base)) (sym k.links.ground.tree_is)
@@ -125,8 +125,10 @@ module _ (coffer : Coffer) (command : Command) (run after : PlanRun) (at : ℕ) 
   commit_past = subst (λ n. n ≤ run.plan.commit.0) (sym k.links.ground.control) (subst (λ (p : ℕ × ℕ). control_of k.base ≤ p.0) (sym k.commit) (head_past coffer command k.head k.spot k.pages k.base tree k.links valid k.spot_is k.drawn))
 
   pub commit_gives : run.made ≡ length run.plan.prepares.items → NextGives coffer command (next.Act (Store run.plan.commit.0 run.plan.commit.1) (stage.Storing after at)) words tree phase
-  commit_gives all = subst (λ (p : ℕ × ℕ). NextGives coffer command (next.Act (Store p.0 p.1) (stage.Storing after at)) words tree phase) (sym k.commit)
-      (done_only _ words head_at entry inside (subst (λ m. Goes coffer command (stage.Storing after at) m (Store head_at entry) words tree phase Done) (sym marked) (subst (λ p. Goes coffer command (stage.Storing after at) Commit (Store head_at entry) words tree p Done) (sym k.phase_is) goes)))
+  commit_gives all = subst (λ (p : ℕ × ℕ). NextGives coffer command (next.Act (Store p.0 p.1) (stage.Storing after at)) words tree phase) (sym k.commit) (record {
+    reachable = reached;
+    goes = done_only _ words head_at entry (subst (λ m. Goes (StageKnows coffer command (stage.Storing after at)) m (Store head_at entry) words tree phase Done) (sym marked) (subst (λ p. Goes (StageKnows coffer command (stage.Storing after at)) Commit (Store head_at entry) words tree p Done) (sym k.phase_is) goes));
+  })
     where
       head_at : ℕ
       head_at = bucket_head (dir_of k.base) (bucket_of (name_of command))
@@ -137,8 +139,8 @@ module _ (coffer : Coffer) (command : Command) (run after : PlanRun) (at : ℕ) 
       whole : words ≡ stored_all (spot_pairs (dir_of k.base) k.head (name_of command) k.spot k.pages) k.base
       whole = k.words_are ∙ ap (λ (l : List (ℕ × ℕ)). stored_all l k.base) (take_all run.made run.plan.prepares.items (omega arith)) ∙ ap (λ (l : List (ℕ × ℕ)). stored_all l k.base) k.pairs
 
-      inside : IsAddress (length words) head_at
-      inside = subst (λ n. IsAddress n head_at) (sym (ap length k.words_are ∙ length_stored (take run.made run.plan.prepares.items) k.base)) (head_inside coffer command k.head k.spot k.pages k.base tree k.links valid k.spot_is k.drawn)
+      reached : IsCofferWord words head_at
+      reached = kept_word head_at (commit_reached coffer command k.head k.spot k.pages k.base tree k.links valid k.spot_is k.drawn)
 
       marked : mark_of coffer.dir.at command (Store head_at entry) ≡ Commit
       marked = mark_commit coffer.dir.at command head_at entry k.links.create (ap (λ d. bucket_head d (bucket_of (name_of command))) (sym k.links.ground.dir))
@@ -149,7 +151,7 @@ module _ (coffer : Coffer) (command : Command) (run after : PlanRun) (at : ℕ) 
       ground : Ground coffer (store_at head_at entry words) (tree_after tree command)
       ground = subst (λ w. Ground coffer (store_at head_at entry w) (tree_after tree command)) (sym whole) (spot_commits coffer command k.head k.spot k.pages k.base tree k.links valid k.spot_is k.drawn)
 
-      goes : Goes coffer command (stage.Storing after at) Commit (Store head_at entry) words tree (Runs command true None) Done
+      goes : Goes (StageKnows coffer command (stage.Storing after at)) Commit (Store head_at entry) words tree (Runs command true None) Done
       goes = record {
         legal = changes;
         denotes = ground_denotes coffer _ _ ground;

@@ -2,7 +2,7 @@
 use Rattle.std.specs.Prelude.{◌≡◌, ◌≢◌, ◌⊎◌, ℕ, ◌+◌, ◌<◌, ◌≤◌, List, [], ◌∷◌, length, take, codes, Contains, Some, None, Bool, true, false}
 use Rattle.pm_words.specs.Word.{Word}
 use Rattle.zo_layout.specs.Layout.{page_at, bucket_head, bucket_of, entry_place, first_free_entry, file_map}
-use Rattle.tr_types.specs.Machine.{Answers, acted}
+use Rattle.tr_types.specs.Machine.{acted}
 use Rattle.tr_types.specs.Marks.{mark_of, name_in_root}
 use Rattle.tr_types.specs.Tree.{Member}
 use Rattle.tr_types.specs.Denotes.{value, control_of, dir_of, Denotes}
@@ -34,6 +34,8 @@ use Rattle.zo_ops.specs.declared.plan.Spot.{Spot}
 use Rattle.zo_ops.specs.declared.plan.Spot.TheVariants.{Free, Fresh}
 use Rattle.tr_types.specs.Commands.{IsCommand}
 use Rattle.zo_ops.specs.Laid.{Role, FileAt, tree_of, IsLaid, IsFresh, stored_all}
+use Rattle.zo_ops.specs.Permitted.{Answers}
+use Rattle.zo_ops.specs.Reach.{IsReachable}
 use Rattle.zo_ops.specs.Looking.{LookKnows, CountKnows}
 use Rattle.zo_ops.specs.Plans.{free_entry_pairs, fresh_page_pairs, commit_pair}
 
@@ -177,27 +179,31 @@ StageKnows coffer command (stage.Drawing head spot) answer words tree phase = Dr
 StageKnows coffer command (stage.Storing run at) answer words tree phase = (answer ≡ Done) × RunKnows coffer command run words tree phase
 StageKnows coffer command stage.Over answer words tree phase = ⊥
 
--- an action that a call gives: however the machine answers it, it is legal, the words denote the tree afterwards, and
--- the call knows what its stage asks for
-pub record Goes (coffer : Coffer) (command : Command) (stage : Stage) (mark : Mark) (action : Action) (words : List Word) (tree : List Member) (phase : Phase) (answer : Answer) : Type 0 where
+-- what a call knows with the answer that it gets next
+abbrev pub CallKnows : CallRun → Answer → List Word → List Member → Phase → Type 0
+CallKnows call answer words tree phase = StageKnows call.coffer call.command.now call.stage answer words tree phase
+
+-- an action that was answered so: it is legal, the words denote the tree afterwards, and then this is known
+pub record Goes (Known : Answer → List Word → List Member → Phase → Type 0) (mark : Mark) (action : Action) (words : List Word) (tree : List Member) (phase : Phase) (answer : Answer) : Type 0 where
   pub legal : IsLegalAct tree phase mark action answer
   pub denotes : Denotes (acted action answer words) (changed mark answer tree phase)
-  pub knows : StageKnows coffer command stage answer (acted action answer words) (changed mark answer tree phase) (phase_after (pool_of words) tree mark action answer phase)
+  pub knows : Known answer (acted action answer words) (changed mark answer tree phase) (phase_after (pool_of words) tree mark action answer phase)
 
-abbrev pub ActGives : Coffer → Command → Stage → Mark → Action → List Word → List Member → Phase → Type 0
-ActGives coffer command stage mark action words tree phase =
-    (answer : Answer) → Answers words action answer → Goes coffer command stage mark action words tree phase answer
+-- an action that a call gives: it stays in the coffer's pages, and however it is answered, the call goes on
+pub record ActGives (Known : Answer → List Word → List Member → Phase → Type 0) (mark : Mark) (action : Action) (words : List Word) (tree : List Member) (phase : Phase) : Type 0 where
+  pub reachable : IsReachable words action
+  pub goes : (answer : Answer) → Answers words action answer → Goes Known mark action words tree phase answer
 
 -- a reply that a call gives is legal, and leaves the ground for the next call
 abbrev pub ReplyGives : Coffer → Reply → List Word → List Member → Phase → Type 0
 ReplyGives coffer reply words tree phase = MayReply tree phase reply × Ground coffer words tree
 
 abbrev pub NextGives : Coffer → Command → Next → List Word → List Member → Phase → Type 0
-NextGives coffer command (next.Act action stage) words tree phase = ActGives coffer command stage (mark_of coffer.dir.at command action) action words tree phase
+NextGives coffer command (next.Act action stage) words tree phase = ActGives (StageKnows coffer command stage) (mark_of coffer.dir.at command action) action words tree phase
 NextGives coffer command (next.Over reply) words tree phase = ReplyGives coffer reply words tree phase
 
 abbrev pub StepGives : CallRun → CallStep → List Word → List Member → Phase → Type 0
-StepGives call (step.Act mark action) words tree phase = ActGives call.coffer call.command.now call.stage mark action words tree phase
+StepGives call (step.Act mark action) words tree phase = ActGives (CallKnows call) mark action words tree phase
 StepGives call (step.Over reply) words tree phase = ReplyGives call.coffer reply words tree phase
 
 -- what comes after an answer, where this was known with it
@@ -235,4 +241,4 @@ FillKnows coffer command head spot pages words tree phase =
 -- a step that a call gives where it knew what its stage asked for with the answer
 abbrev pub StepsFrom : CallRun → Answer → CallRun → CallStep → Type 0
 StepsFrom old answer new step =
-    IsCommand old.command.now → (words : List Word) (tree : List Member) (phase : Phase) → StageKnows old.coffer old.command.now old.stage answer words tree phase → StepGives new step words tree phase
+    IsCommand old.command.now → (words : List Word) (tree : List Member) (phase : Phase) → CallKnows old answer words tree phase → StepGives new step words tree phase

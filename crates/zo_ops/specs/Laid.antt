@@ -66,6 +66,8 @@ pub record IsBuilt (words : List Word) (roles : ℕ → Role) (files : List File
   pub size : IsPages (length words) (pages_of words)
   pub control : roles (root_control (pages_of words)) ≡ Control
   pub root : roles (root_page (pages_of words)) ≡ Root
+  pub control_coffers : IsCofferPage words (root_control (pages_of words))
+  pub root_coffers : IsCofferPage words (root_page (pages_of words))
   pub kind : value words (dir_of words) ≡ 0
   pub no_intent : value words (word_of (control_of words) 3) ≡ 0
   pub heads : (b : ℕ) → b < 256 → Chain words (value words (bucket_head (dir_of words) b)) (entries_in b files)

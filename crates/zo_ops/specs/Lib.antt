@@ -1,5 +1,9 @@
 -- what a call does
 pub mod Calls
+-- where a call's actions go
+pub mod Reach
+-- what an action that the rights permit is answered
+pub mod Permitted
 -- how the words of the root coffer lie
 pub mod Laid
 -- the stores of a plan

@@ -2,11 +2,11 @@
 use Rattle.std.specs.Prelude.{◌≡◌, ◌≢◌, ℕ, ◌+◌, ◌*◌, ◌/◌, ◌%◌, ◌^◌, ◌<◌, List, length, map, slice_index, Contains, nat_lt}
 use Rattle.std.specs.List.{count_by}
 use Rattle.pm_words.specs.Word.{Word}
-use Rattle.pm_words.specs.Memory.{IsAddress}
 use Rattle.zo_layout.specs.Layout.{page_at, bucket_head, bucket_of, entry_target, name_length, name_word}
 use Rattle.tr_types.specs.Denotes.{value, dir_of, Chain, IsNamed}
 use Rattle.tr_types.specs.declared.action.Answer.{Answer}
 use Rattle.tr_types.specs.declared.action.Answer.TheVariants as answer
+use Rattle.zo_ops.specs.Reach.{IsCofferWord}
 use Rattle.zo_ops.specs.Laid.{FileAt}
 use Rattle.zo_ops.specs.declared.lookup.Lookup.{Lookup}
 use Rattle.zo_ops.specs.declared.lookup.Asked.{Asked as LookAsked}
@@ -56,10 +56,10 @@ LookKnowsAt asked answer name words files = ⊥
 abbrev pub LookKnows : Lookup → List ℕ → Answer → List Word → List FileAt → Type 0
 LookKnows l name answer words files = LookKnowsAt l.asked answer name words files
 
--- A step of a look-up: it loads a word, after which it is known what is needed, or it has the answer. It finds no damage.
+-- A step of a look-up: it loads a word of the coffer, after which it is known what is needed, or it has the answer. It finds no damage.
 abbrev pub LookGives : Lookup → List ℕ → List Word → List FileAt → LookStep → Type 0
 LookGives l name words files (look_step.Load addr) =
-    IsAddress (length words) addr × LookKnows l name (answer.Word (value words addr)) words files
+    IsCofferWord words addr × LookKnows l name (answer.Word (value words addr)) words files
 LookGives l name words files (look_step.Found target from) =
     (f : FileAt) × Contains files f × (f.name ≡ name) × (target ≡ page_at f.page)
 LookGives l name words files (look_step.Missing head) =
@@ -86,9 +86,9 @@ CountKnowsAt asked answer bucket names words files = ⊥
 abbrev pub CountKnows : Count → Answer → List Word → List FileAt → Type 0
 CountKnows c answer words files = CountKnowsAt c.asked answer c.bucket c.names words files
 
--- A step of a count: it loads a word, after which it is known what is needed, or it has counted all names.
+-- A step of a count: it loads a word of the coffer, after which it is known what is needed, or it has counted all names.
 abbrev pub CountGives : Count → List Word → List FileAt → CountStep → Type 0
 CountGives c words files (count_step.Load addr) =
-    IsAddress (length words) addr × CountKnows c (answer.Word (value words addr)) words files
+    IsCofferWord words addr × CountKnows c (answer.Word (value words addr)) words files
 CountGives c words files (count_step.Counted n) = n ≡ length files
 CountGives c words files (count_step.Damaged addr) = ⊥

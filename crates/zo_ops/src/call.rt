@@ -1,8 +1,12 @@
 // One call: a step machine that gives one action at a time and is told the answer.
-ghost use Rattle.std.specs.Prelude.{◌≡◌, IfOk};
+ghost use Rattle.std.specs.Prelude.{◌≡◌, ◌⊎◌, List, IfOk, MatchOption};
 ghost use Rattle.zo_ops.specs.Calls.{IsStepOf, IsNextOf};
-ghost use Rattle.zo_ops.specs.Knows.{StepsFrom, AfterKnowing, StageKnows, BeginKnows, FindKnows, MissKnows, PlaceKnows, AskKnows, FillKnows, PoolKnows, RunKnows, path_of, name_of};
-ghost use Rattle.zo_layout.specs.Layout.{pool_head};
+ghost use Rattle.zo_ops.specs.Knows.{StepsFrom, CallKnows, AfterKnowing, StageKnows, BeginKnows, FindKnows, MissKnows, PlaceKnows, AskKnows, FillKnows, PoolKnows, RunKnows, path_of, name_of};
+ghost use Rattle.zo_layout.specs.Layout.{page_at, pool_head};
+ghost use Rattle.pm_words.specs.Word.{Word};
+ghost use Rattle.tr_types.specs.Tree.{Member};
+ghost use Rattle.tr_types.specs.World.{Phase};
+ghost use Rattle.tr_types.specs.declared.action.Answer.{Answer};
 ghost use Rattle.tr_types.specs.declared.command.Command.{Command};
 ghost use Rattle.zo_ops.specs.declared.call.Stage.TheVariants as stage;
 ghost use Rattle.zo_ops.specs.declared.call.Coffer.{Coffer};
@@ -15,8 +19,8 @@ use crate::plan::{Bucket, PlanRun, Spot, plan_in_free_entry, plan_in_fresh_page}
 use sqlite_items::Boxed;
 use std::alloc::{AllocError, Global};
 use std::mem;
-use zo_layout::{KIND_FILE, file_map, first_entry_page, first_free_entry, pool_head};
 use tr_types::{Action, Answer, Command, Kcall, KernAnswer, Kind, Mark, Reply};
+use zo_layout::{KIND_FILE, file_map, first_entry_page, first_free_entry, pool_head};
 
 /// The root coffer's number.
 const ROOT_COFFER: u16 = 1;
@@ -29,6 +33,19 @@ const ROOT_MODE: u16 = 0o666;
 pub struct Coffer {
     pub control: Addr,
     pub dir: Addr,
+}
+
+impl Coffer {
+    /// The coffer with its control page and its root directory in the pages of these numbers, none where one is 0.
+    pub fn of_pages(control: u32, root: u32) -> Option<Coffer>
+        ensures { MatchOption result ((control ≡ 0) ⊎ (root ≡ 0))
+            (λ coffer. (coffer.control.at ≡ page_at control) × (coffer.dir.at ≡ page_at root)) }
+    {
+        Some(Coffer {
+            control: Addr::of_page(control)?,
+            dir: Addr::of_page(root)?,
+        })
+    }
 }
 
 /// A running call of a command in the root coffer.
@@ -93,6 +110,8 @@ impl<'a> CallRun<'a> {
         ensures coffer { result.coffer ≡ coffer }
         ensures command { result.command.now ≡ command.now }
         ensures stage { result.stage ≡ Stage.Begin }
+        ensures knows { (first : Answer) (words : List Word) (tree : List Member) (phase : Phase) →
+            BeginKnows coffer command.now words tree phase → CallKnows result first words tree phase }
     {
         CallRun {
             coffer,

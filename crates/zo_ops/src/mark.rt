@@ -2,8 +2,8 @@
 ghost use Rattle.std.specs.Prelude.{◌≡◌, ◌<◌, ◌^◌, drop};
 ghost use Rattle.tr_types.specs.Marks.{mark_of, is_commit_word, name_in_root};
 
-use zo_layout::{bucket_head, bucket_of};
 use tr_types::{Action, Command, Mark};
+use zo_layout::{bucket_head, bucket_of};
 
 /// The name that a path of one name has in the root directory.
 pub(crate) fn name_in_root(path: &[u8]) -> &[u8]

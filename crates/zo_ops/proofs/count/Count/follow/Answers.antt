@@ -1,7 +1,7 @@
 use Rattle.std.proofs.Common.{◌≡◌, ℕ, ◌+◌, ◌<◌, sym, subst, arith}
 use Rattle.tr_types.specs.Denotes.{value}
 use Rattle.zo_ops.specs.Looking.{Counts}
-use Rattle.zo_ops.proofs.EntryPlaces.{entry_address, entry_near}
+use Rattle.zo_ops.proofs.Places.{entry_address, entry_near}
 use Rattle.zo_ops.proofs.CountLemmas.{counts_end, counts_one}
 use Rattle.zo_ops.proofs.count.Count.follow.Goals as goal
 

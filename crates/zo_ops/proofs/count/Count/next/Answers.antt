@@ -1,11 +1,11 @@
-use Rattle.std.proofs.Common.{◌≡◌, ℕ, ◌<◌, length, ap, sym, subst, ◌∙◌, refl, arith}
-use Rattle.pm_words.specs.Memory.{IsAddress}
+use Rattle.std.proofs.Common.{◌≡◌, ℕ, ◌<◌, ap, sym, subst, ◌∙◌, refl, arith}
+use Rattle.zo_ops.specs.Reach.{IsCofferWord}
 use Rattle.zo_layout.specs.Layout.{bucket_head}
 use Rattle.tr_types.specs.Denotes.{value, dir_of}
 use Rattle.tr_types.specs.declared.action.Answer.TheVariants as answer
 use Rattle.zo_ops.specs.declared.count.Asked.TheVariants as count
 use Rattle.zo_ops.specs.Looking.{Counts}
-use Rattle.zo_ops.proofs.EntryPlaces.{head_address}
+use Rattle.zo_ops.proofs.Places.{head_reached}
 use Rattle.zo_ops.proofs.CountLemmas.{counts_first, count_knows_at}
 use Rattle.zo_ops.proofs.count.Count.next.Goals as goal
 use Rattle.zo_ops.proofs.count.Count.next.Goals.{in-Head, in-Next}
@@ -17,7 +17,7 @@ returns-in-Nothing-clause-gives c words roles files built few dir k =
     let low : b < 256 = omega arith in
     let at : c.bucket_head-head_at.result ≡ bucket_head (dir_of words) b = c.bucket_head-head_at.ensures ∙ ap (λ (d : ℕ). bucket_head d b) dir in
     let counted = count_knows_at c.args.self.now.asked count.Nothing c.args.answer.now c.args.answer.now b names words files c.in-Nothing.is refl k in (
-      subst (IsAddress (length words)) (sym at) (head_address words b built.size low),
+      subst (IsCofferWord words) (sym at) (head_reached words roles files (dir_of words) b built refl low),
       subst (λ (a : ℕ). Counts words files b names (value words a)) (sym at) (counts_first words roles files b names built low counted),
     )
 

@@ -1,9 +1,9 @@
-use Rattle.std.proofs.Common.{◌≡◌, ℕ, ◌+◌, ◌<◌, length, ap, sym, subst, ◌∙◌, arith}
-use Rattle.pm_words.specs.Memory.{IsAddress}
+use Rattle.std.proofs.Common.{◌≡◌, ℕ, ◌+◌, ◌<◌, ap, sym, subst, ◌∙◌, refl, arith}
+use Rattle.zo_ops.specs.Reach.{IsCofferWord}
 use Rattle.zo_layout.specs.Layout.{bucket_head}
 use Rattle.tr_types.specs.Denotes.{value, dir_of}
 use Rattle.zo_ops.specs.Looking.{count_below, Counts}
-use Rattle.zo_ops.proofs.EntryPlaces.{head_address}
+use Rattle.zo_ops.proofs.Places.{head_reached}
 use Rattle.zo_ops.proofs.CountLemmas.{count_all, counts_first}
 use Rattle.zo_ops.proofs.count.Count.next_bucket.Goals as goal
 
@@ -16,6 +16,6 @@ returns-clause-gives c words roles files built dir counted =
     let b = c.args.self.now.bucket + 1 in
     let low : b < 256 = omega (arith, c.if-self.false) in
     let at : c.bucket_head.result ≡ bucket_head (dir_of words) b = c.bucket_head.ensures ∙ ap (λ (d : ℕ). bucket_head d b) dir in (
-      subst (IsAddress (length words)) (sym at) (head_address words b built.size low),
+      subst (IsCofferWord words) (sym at) (head_reached words roles files (dir_of words) b built refl low),
       subst (λ (a : ℕ). Counts words files b c.args.self.now.names (value words a)) (sym at) (counts_first words roles files b c.args.self.now.names built low counted),
     )

@@ -1,8 +1,8 @@
-use Rattle.std.proofs.Common.{◌<◌, length, ap, sym, subst, arith}
-use Rattle.pm_words.specs.Memory.{IsAddress}
+use Rattle.std.proofs.Common.{◌<◌, ap, sym, subst, arith}
+use Rattle.zo_ops.specs.Reach.{IsCofferWord}
 use Rattle.tr_types.specs.Denotes.{value}
 use Rattle.zo_ops.specs.Looking.{Walks}
-use Rattle.zo_ops.proofs.EntryPlaces.{entry_word, entry_near}
+use Rattle.zo_ops.proofs.Places.{entry_word, entry_near}
 use Rattle.zo_ops.proofs.LookLemmas.{walks_at, walks_end, at_place}
 use Rattle.zo_ops.proofs.lookup.Lookup.follow.Goals as goal
 
@@ -17,7 +17,7 @@ returns-in-To-clause-gives c name words roles files built w =
     let here = subst (Walks words name files c.args.head) (sym (c.of.ensures.to entry c.in-To.is)) w in
     let a = walks_at words name files c.args.head entry.at here entry.some in
     let place = at_place words roles files name c.args.head entry.at built a in (
-      subst (IsAddress (length words)) (sym c.name_length.ensures) (entry_word words entry.at 2 built.size place (omega arith)),
+      subst (IsCofferWord words) (sym c.name_length.ensures) (entry_word words entry.at 2 built.size place (omega arith)),
       (here, ap (value words) c.name_length.ensures),
     )
 

@@ -1,7 +1,7 @@
-use Rattle.std.proofs.Common.{◌*◌, length, ap, sym, subst, arith}
-use Rattle.pm_words.specs.Memory.{IsAddress}
+use Rattle.std.proofs.Common.{◌*◌, ap, sym, subst, arith}
+use Rattle.zo_ops.specs.Reach.{IsCofferWord}
 use Rattle.tr_types.specs.Denotes.{value}
-use Rattle.zo_ops.proofs.EntryPlaces.{entry_word}
+use Rattle.zo_ops.proofs.Places.{entry_word}
 use Rattle.zo_ops.proofs.LookLemmas.{walks_at, at_place, name_word_address, agrees_all, entry_found}
 use Rattle.zo_ops.proofs.lookup.Lookup.letters.Goals as goal
 
@@ -11,7 +11,7 @@ returns-in-Some-clause-gives c words roles files built w agrees =
     let low = c.in-Some.ensures.some in
     let a = walks_at words name files c.args.head c.args.entry.at w c.args.entry.some in
     let at = name_word_address words roles files name c.args.head c.args.entry.at c.args.i built a agrees.len low in
-    (subst (IsAddress (length words)) (sym c.name_word.ensures) at.0, (w, agrees, low, ap (value words) c.name_word.ensures))
+    (subst (IsCofferWord words) (sym c.name_word.ensures) at.0, (w, agrees, low, ap (value words) c.name_word.ensures))
 
 pub returns-in-None-clause-gives : goal.returns-in-None-clause-gives
 returns-in-None-clause-gives c words roles files built w agrees =
@@ -20,6 +20,6 @@ returns-in-None-clause-gives c words roles files built w agrees =
     let a = walks_at words name files c.args.head c.args.entry.at w c.args.entry.some in
     let place = at_place words roles files name c.args.head c.args.entry.at built a in
     let named = agrees_all words name c.args.entry.at (8 * c.args.i) agrees all in (
-      subst (IsAddress (length words)) (sym c.entry_target.ensures) (entry_word words c.args.entry.at 1 built.size place (omega arith)),
+      subst (IsCofferWord words) (sym c.entry_target.ensures) (entry_word words c.args.entry.at 1 built.size place (omega arith)),
       (entry_found words name files c.args.head c.args.entry.at a named, ap (value words) c.entry_target.ensures),
     )

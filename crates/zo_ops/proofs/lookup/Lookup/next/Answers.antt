@@ -1,11 +1,11 @@
-use Rattle.std.proofs.Common.{◌≡◌, ℕ, ◌<◌, length, ap, sym, subst, ◌∙◌, arith, inl, inr}
-use Rattle.pm_words.specs.Memory.{IsAddress}
+use Rattle.std.proofs.Common.{◌≡◌, ℕ, ◌<◌, ap, sym, subst, ◌∙◌, refl, arith, inl, inr}
+use Rattle.zo_ops.specs.Reach.{IsCofferWord}
 use Rattle.zo_layout.specs.Layout.{bucket_head, bucket_of}
 use Rattle.tr_types.specs.Denotes.{value, dir_of}
 use Rattle.tr_types.specs.declared.action.Answer.TheVariants as answer
 use Rattle.zo_ops.specs.declared.lookup.Asked.TheVariants as look
 use Rattle.zo_ops.specs.Looking.{Walks}
-use Rattle.zo_ops.proofs.EntryPlaces.{head_address}
+use Rattle.zo_ops.proofs.Places.{head_reached}
 use Rattle.zo_ops.proofs.LookLemmas.{walks_first, found_file, knows_at}
 use Rattle.zo_ops.proofs.lookup.Lookup.next.Goals as goal
 
@@ -15,7 +15,7 @@ returns-in-Nothing-clause-gives c words roles files built dir some short k =
     let low : bucket_of name < 256 = omega arith in
     let at : c.bucket_head-head_at.result ≡ bucket_head (dir_of words) (bucket_of name)
     = c.bucket_head-head_at.ensures ∙ ap (λ (d : ℕ). bucket_head d c.bucket_of.result) dir ∙ ap (bucket_head (dir_of words)) c.bucket_of.ensures in (
-      subst (IsAddress (length words)) (sym at) (head_address words (bucket_of name) built.size low),
+      subst (IsCofferWord words) (sym at) (head_reached words roles files (dir_of words) (bucket_of name) built refl low),
       subst (λ (a : ℕ). Walks words name files (value words a) (value words a)) (sym at) (walks_first words roles files name built),
     )
 

@@ -1,4 +1,4 @@
-use Rattle.zo_ops.proofs.EntryPlaces.{entry_address}
+use Rattle.zo_ops.proofs.Places.{entry_address}
 use Rattle.zo_ops.proofs.LookLemmas.{walks_at, at_place}
 use Rattle.zo_ops.proofs.lookup.Lookup.pass.Goals as goal
 
