@@ -1,0 +1,2 @@
+-- what the session of a call knows and gives
+pub mod Sessions

@@ -1,0 +1,161 @@
+-- The session of one call: the thread finds and maps the coffer that its command consults, opens the coffer's key alone,
+-- lets the call work, closes its register, unmaps the coffer, and replies. What it knows between two of its actions,
+-- stage by stage, and what it gives.
+use Rattle.std.specs.Prelude.{◌≡◌, ℕ, ◌<◌, List, [], ◌∷◌, length, Option, Some, None, Bool, true, false}
+use Rattle.pm_words.specs.Word.{Word}
+use Rattle.tr_types.specs.Machine.{Bus, IsThread, pkru_of, Answers, IsBuilt, found_at, root_mapped}
+use Rattle.tr_types.specs.Rights.{closed_pkru, only_pkru}
+use Rattle.tr_types.specs.Marks.{mark_of}
+use Rattle.tr_types.specs.Tree.{Member}
+use Rattle.tr_types.specs.Denotes.{control_of, dir_of, Denotes}
+use Rattle.tr_types.specs.Commands.{IsCommand, consulted_path}
+use Rattle.tr_types.specs.World.{World, Phase, Idle, Runs, Committed, stepped, IsLegal, MayReply}
+use Rattle.tr_types.specs.declared.action.Action.{Action}
+use Rattle.tr_types.specs.declared.action.Answer.{Answer}
+use Rattle.tr_types.specs.declared.action.Answer.TheVariants.{Done, Kern}
+use Rattle.tr_types.specs.declared.command.Command.{Command}
+use Rattle.tr_types.specs.declared.command.Command.TheVariants.{Create, Stat}
+use Rattle.tr_types.specs.declared.command.Reply.{Reply}
+use Rattle.tr_types.specs.declared.entry.Entry.TheVariants as entry
+use Rattle.tr_types.specs.declared.entry.Mark.{Mark}
+use Rattle.tr_types.specs.declared.kernel_call.Holder.{Holder}
+use Rattle.tr_types.specs.declared.kernel_call.KernAnswer.TheVariants.{Found, Mapped}
+use Rattle.tr_types.specs.declared.permission.Right.{Right}
+use Rattle.zo_ops.specs.declared.call.CallRun.{CallRun}
+use Rattle.zo_ops.specs.declared.call.Coffer.{Coffer}
+use Rattle.zo_ops.specs.Knows.{Ground, CallKnows}
+use Rattle.tr_dispatch.specs.declared.session.Session.{Session}
+use Rattle.tr_dispatch.specs.declared.session.SessionStep.{SessionStep}
+use Rattle.tr_dispatch.specs.declared.session.SessionStep.TheVariants as step
+use Rattle.tr_dispatch.specs.declared.session.Stage.{Stage}
+use Rattle.tr_dispatch.specs.declared.session.Stage.TheVariants as stage
+use Rattle.tr_dispatch.specs.declared.session.Next.{Next}
+use Rattle.tr_dispatch.specs.declared.session.Next.TheVariants as next
+
+-- the words lie as a call finds them, and the tree is theirs
+abbrev pub IsGrounded : List Word → List Member → Type 0
+IsGrounded words tree = (coffer : Coffer) × Ground coffer words tree
+
+-- the command stores
+abbrev pub writes : Command → Bool
+writes (Create path mode) = true
+writes (Stat path) = false
+
+-- the right with which a command maps its coffer: to write or to read
+abbrev pub right_of : Command → Right
+right_of (Create path mode) = record { 0 = 2 }
+right_of (Stat path) = record { 0 = 1 }
+
+-- The row of a thread that has mapped the root coffer for its command. No other thread has a map at that time, so that
+-- the key is the first.
+abbrev pub row_of : ℕ → Command → Holder
+row_of thread command = record { thread = thread; id = 1; key = 1; right = right_of command; exclusive = false }
+
+-- the register in the window: the coffer's key alone, for stores only where the command stores
+abbrev pub open_pkru : Command → ℕ
+open_pkru command = only_pkru 1 (writes command)
+
+-- who holds which coffer, and the thread's register
+pub record Stands (bus : Bus) (thread : ℕ) (holders : List Holder) (pkru : ℕ) : Type 0 where
+  pub holds : bus.holders ≡ holders
+  pub register : pkru_of bus thread ≡ pkru
+
+-- nobody holds a coffer; the thread alone does, and its window is closed; its window is open
+abbrev pub IsBare : Bus → ℕ → Type 0
+IsBare bus thread = Stands bus thread [] closed_pkru
+
+abbrev pub HasMapped : Bus → ℕ → Command → Type 0
+HasMapped bus thread command = Stands bus thread (row_of thread command ∷ []) closed_pkru
+
+abbrev pub HasOpened : Bus → ℕ → Command → Type 0
+HasOpened bus thread command = Stands bus thread (row_of thread command ∷ []) (open_pkru command)
+
+-- a call that works for the command in the root coffer of these words
+pub record WorksFor (command : Command) (call : CallRun) (words : List Word) : Type 0 where
+  pub command_is : call.command.now ≡ command
+  pub control : call.coffer.control.at ≡ control_of words
+  pub dir : call.coffer.dir.at ≡ dir_of words
+
+-- the phase is one of a call with this command
+abbrev pub IsPhaseOf : Command → Phase → Type 0
+IsPhaseOf command Idle = ⊥
+IsPhaseOf command (Runs running drained refused) = running ≡ command
+IsPhaseOf command (Committed reply) = Unit {0}
+
+-- what is known at a stage, with the answer that comes next
+abbrev pub SessionStageKnows : ℕ → Command → Stage → Answer → Bus → List Member → Phase → Option ℕ → Type 0
+SessionStageKnows thread command stage.Begin answer bus tree phase consulted =
+    IsBare bus thread × IsGrounded bus.words tree × (phase ≡ Runs command false None)
+SessionStageKnows thread command stage.Finding answer bus tree phase consulted =
+    IsBare bus thread × IsGrounded bus.words tree × (phase ≡ Runs command false None) × (consulted ≡ Some 1) × (answer ≡ Kern (Found (found_at (consulted_path command)) None))
+SessionStageKnows thread command stage.Mapping answer bus tree phase consulted =
+    HasMapped bus thread command × IsGrounded bus.words tree × (phase ≡ Runs command false None) × (consulted ≡ Some 1) × (answer ≡ Kern (Mapped (root_mapped bus.words 1)))
+SessionStageKnows thread command (stage.Working call) answer bus tree phase consulted =
+    HasOpened bus thread command × WorksFor command call bus.words × CallKnows call answer bus.words tree phase × IsPhaseOf command phase × (consulted ≡ Some 1)
+SessionStageKnows thread command (stage.Closing reply) answer bus tree phase consulted =
+    HasMapped bus thread command × IsGrounded bus.words tree × MayReply tree phase reply × (answer ≡ Done)
+SessionStageKnows thread command (stage.Ending reply) answer bus tree phase consulted =
+    IsBare bus thread × IsGrounded bus.words tree × MayReply tree phase reply
+SessionStageKnows thread command stage.Over answer bus tree phase consulted = ⊥
+
+-- the thread was started, has a register, and the command is one that can be given
+pub record Sits (thread : ℕ) (command : Command) (w : World) : Type 0 where
+  pub lives : IsThread w.machine.bus thread
+  pub register : thread < length w.machine.bus.pkrus
+  pub valid : IsCommand command
+
+abbrev pub KnowsAt : ℕ → Command → Stage → Answer → World → Type 0
+KnowsAt thread command stage answer w =
+    Sits thread command w × SessionStageKnows thread command stage answer w.machine.bus w.tree (w.phases thread) (w.consulted thread)
+
+-- what a session knows with the answer that it gets next
+abbrev pub SessionKnows : Session → Answer → World → Type 0
+SessionKnows s answer w = KnowsAt s.thread s.command.now s.stage answer w
+
+-- the session's thread and command
+abbrev pub thread_of : Session → ℕ
+thread_of s = s.thread
+
+abbrev pub command_of : Session → Command
+command_of s = s.command.now
+
+-- what is known at the begin of a session: nobody holds a coffer, the thread's register is closed, and its call is new
+pub record BeginsAt (thread : ℕ) (command : Command) (w : World) : Type 0 where
+  pub sits : Sits thread command w
+  pub bare : IsBare w.machine.bus thread
+  pub grounded : IsGrounded w.machine.bus.words w.tree
+  pub phase_is : w.phases thread ≡ Runs command false None
+
+-- an action that was answered so: it is legal, the words denote the tree afterwards, and then this is known
+pub record SessionGoes (Known : Answer → World → Type 0) (thread : ℕ) (mark : Mark) (action : Action) (w : World) (answer : Answer) : Type 0 where
+  pub legal : IsLegal w (entry.Act thread 0 mark action answer)
+  pub denotes : Denotes (stepped w (entry.Act thread 0 mark action answer)).machine.bus.words (stepped w (entry.Act thread 0 mark action answer)).tree
+  pub knows : Known answer (stepped w (entry.Act thread 0 mark action answer))
+
+-- an action that a session gives: it has the command's mark, is built, and however it is answered, the session goes on
+pub record SessionActs (Known : Answer → World → Type 0) (thread : ℕ) (command : Command) (mark : Mark) (action : Action) (w : World) : Type 0 where
+  pub marked : mark ≡ mark_of (dir_of w.machine.bus.words) command action
+  pub built : IsBuilt action
+  pub goes : (answer : Answer) → Answers w.machine.bus thread action answer → SessionGoes Known thread mark action w answer
+
+-- a reply that a session gives: it is legal, and nothing is left open or mapped
+pub record SessionEnds (thread : ℕ) (reply : Reply) (w : World) : Type 0 where
+  pub legal : IsLegal w (entry.Reply thread reply)
+  pub bare : IsBare w.machine.bus thread
+  pub grounded : IsGrounded w.machine.bus.words w.tree
+
+abbrev pub NextGives : ℕ → Command → Next → World → Type 0
+NextGives thread command (next.Act mark action stage) w = SessionActs (KnowsAt thread command stage) thread command mark action w
+NextGives thread command (next.Over reply) w = SessionEnds thread reply w
+
+abbrev pub SessionGives : Session → SessionStep → World → Type 0
+SessionGives s (step.Act mark action) w = SessionActs (SessionKnows s) s.thread s.command.now mark action w
+SessionGives s (step.Over reply) w = SessionEnds s.thread reply w
+
+-- what comes after an answer, where this was known with it
+abbrev pub NextFrom : ℕ → Command → Stage → Answer → Next → Type 0
+NextFrom thread command stage answer n = (w : World) → KnowsAt thread command stage answer w → NextGives thread command n w
+
+-- a step that a session gives where it knew what its stage asked for
+abbrev pub SessionStepsFrom : Session → Answer → Session → SessionStep → Type 0
+SessionStepsFrom old answer new step = (w : World) → SessionKnows old answer w → SessionGives new step w
