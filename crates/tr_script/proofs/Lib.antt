@@ -3,7 +3,7 @@ pub mod PieceLemmas
 -- words that spell a number, and lines of one spelling
 pub mod SpellingLemmas
 -- what a line can't be
-pub mod LineLemmas
+
 -- a text is read line by line
 pub mod ReadingLemmas
 -- what a text keeps while more is appended
