@@ -2,9 +2,9 @@
 pub mod PieceLemmas
 -- words that spell a number, and lines of one spelling
 pub mod SpellingLemmas
--- what a line can't be
-pub mod LineLemmas
 -- a text is read line by line
 pub mod ReadingLemmas
+-- a text has one first bad place, and is then no script
+pub mod PlaceLemmas
 -- what a text keeps while more is appended
 pub mod TextLemmas

@@ -1,7 +1,8 @@
 // Reads the text of a script, line by line and word by word.
-ghost use Rattle.std.specs.Prelude.{◌≡◌, ◌<◌, ◌≤◌, ◌+◌, ◌^◌, List, [], ◌∷◌, length, IfOk, IfErr};
-ghost use Rattle.tr_script.specs.Grammar.{lines_of, is_kept, nothing_declared, IsScript};
-ghost use Rattle.tr_script.specs.Reading.{OnBad, OnBadLine, Reads, IsCountedFrom1};
+ghost use Rattle.std.specs.Prelude.{◌≡◌, ◌<◌, ◌≤◌, ◌+◌, ◌^◌, List, ◌∷◌, length, take, IfOk, IfErr};
+ghost use Rattle.tr_script.specs.Grammar.{lines_of, is_kept, nothing_declared, text_limit, IsScript};
+ghost use Rattle.tr_script.specs.Places.{IsBadIn, line_behind, column_behind, IsFirstOf, IsFirstBad};
+ghost use Rattle.tr_script.specs.Reading.{OnBad, OnFault, OnBadLine, Reads, IsCountedFrom1};
 ghost use Rattle.tr_script.specs.declared.script.Line.{Line};
 
 use crate::{Line, Script};
@@ -16,6 +17,7 @@ use words::Words;
 mod line;
 mod place;
 mod seen;
+mod slots;
 mod spelling;
 mod words;
 
@@ -58,9 +60,9 @@ fn read_lines(alloc: Global, text: &[u8]) -> Result<Vec<Line>, Fault>
     requires { length text.now < 2 ^ 31 }
     ensures some { IfOk result (λ lines. 0 < length lines.items) }
     ensures ok { IfOk result (λ lines. Reads nothing_declared text.now lines.items) }
-    ensures bad { OnBad result ((lines : List Line) → Reads nothing_declared text.now lines → lines ≡ []) }
+    ensures place { OnBad result (λ place. IsBadIn nothing_declared (lines_of text.now) 1 place.line place.column) }
 {
-    let mut seen = Seen::nothing();
+    let mut seen = Seen::nothing(alloc);
     let mut lines = Vec::new(alloc);
     let mut rest = text;
     let mut number: u32 = 1;
@@ -68,7 +70,7 @@ fn read_lines(alloc: Global, text: &[u8]) -> Result<Vec<Line>, Fault>
         let (bytes, after) = split_line(rest);
         if is_kept(bytes) {
             let line = line(alloc, &seen, &mut Words::of(bytes, number))?;
-            seen.add(&line);
+            seen.add(&line)?;
             lines.push(line)?;
         }
         rest = after;
@@ -86,6 +88,8 @@ fn read_lines(alloc: Global, text: &[u8]) -> Result<Vec<Line>, Fault>
 /// The place behind the text.
 fn place_after(text: &[u8]) -> Place
     requires { length text.now < 2 ^ 31 }
+    ensures line { result.line ≡ line_behind 1 text.now }
+    ensures column { result.column ≡ column_behind 1 text.now }
 {
     let mut line = 1;
     let mut column = 1;
@@ -103,6 +107,7 @@ fn place_after(text: &[u8]) -> Place
 /// The fault of a text that is over the limit by one byte: its first bad place, which is at most that byte's.
 fn fault_over_limit(alloc: Global, text: &[u8]) -> Fault
     requires { length text.now ≡ TEXT_LIMIT + 1 }
+    ensures { OnFault result (λ place. IsFirstOf text.now (line_behind 1 (take text_limit text.now)) (column_behind 1 (take text_limit text.now)) place.line place.column) }
 {
     let (inside, _) = text.split_at(TEXT_LIMIT);
     let limit = place_after(inside);
@@ -120,7 +125,8 @@ fn fault_over_limit(alloc: Global, text: &[u8]) -> Fault
 /// The first place that is bad, or want of memory.
 pub fn read_script(alloc: Global, text: &[u8]) -> Result<Script, ScriptFault>
     ensures script { IfOk result (λ s. IsScript text.now s) }
-    ensures refused { OnBadLine result ((lines : List Line) → IsScript text.now lines → ⊥) }
+    ensures refused { OnBadLine result (λ line column. (lines : List Line) → IsScript text.now lines → ⊥) }
+    ensures place { OnBadLine result (IsFirstBad text.now) }
     ensures counted_from_1 { IfErr result IsCountedFrom1 }
 {
     let read = if text.len() <= TEXT_LIMIT {

@@ -1,14 +1,14 @@
 // What the entries of a trace print in brief.
-ghost use Rattle.std.specs.Prelude.{◌≡◌, ◌+◌, ◌%◌, ◌<◌, ◌++◌, OnOk, OnErr, flat_map, codes, length, take};
+ghost use Rattle.std.specs.Prelude.{◌≡◌, ℕ, ◌+◌, ◌%◌, ◌<◌, ◌++◌, OnOk, OnErr, flat_map, codes, length, take};
 ghost use Rattle.tr_script.specs.Grammar.{mode_text, thread_name};
 ghost use Rattle.tr_script.specs.Text as spec;
 
 use itoa::Buffer;
 use pm_words::NoMemory;
-use tr_types::{Entry, Kind, Name, Path, Reply, Right};
+use tr_types::{Answer, Entry, FaultKind, Kind, Name, Path, Reply, Right};
 
-/// Appends what an entry prints in brief: a reply is a line, all else nothing. Where the line finds no
-/// room, the text is left as it was.
+/// Appends what an entry prints in brief: a reply and a stray store are a line each, all else nothing. Where the line
+/// finds no room, the text is left as it was.
 pub fn append_brief_text(text: &mut Vec<u8>, entry: &Entry) -> Result<(), NoMemory>
     ensures ok { OnOk result (text.new.items ≡ text.old.items ++ spec.brief_text entry.now) }
     ensures err { OnErr result (text.new.items ≡ text.old.items) }
@@ -16,6 +16,7 @@ pub fn append_brief_text(text: &mut Vec<u8>, entry: &Entry) -> Result<(), NoMemo
     let start = text.len();
     let done = match entry {
         Entry::Reply { thread, reply } => append_reply_line(text, *thread, reply),
+        Entry::Stray { thread, answer, .. } => append_stray_line(text, *thread, answer),
         _ => Ok(()),
     };
     if done.is_err() {
@@ -34,6 +35,39 @@ fn append_reply_line(text: &mut Vec<u8>, thread: u16, reply: &Reply) -> Result<(
     append_reply(text, reply)?;
     text.push(b'\n')?;
     Ok(())
+}
+
+/// Appends the line of a thread's stray store. No line is that of an answer which no store is given.
+fn append_stray_line(text: &mut Vec<u8>, thread: u16, answer: &Answer) -> Result<(), NoMemory>
+    ensures ok { (addr word : ℕ) → OnOk result (text.new.items ≡ text.old.items ++ spec.brief_text (Entry.Stray thread addr word answer.now)) }
+    ensures kept { take (length text.old.items) text.new.items ≡ text.old.items }
+{
+    match *answer {
+        Answer::Done => append_stray(text, thread, b"done"),
+        Answer::Fault(kind) => append_stray(text, thread, fault_words(kind)),
+        Answer::Word(_) | Answer::Kern(_) => Ok(()),
+    }
+}
+
+fn append_stray(text: &mut Vec<u8>, thread: u16, answer: &[u8]) -> Result<(), NoMemory>
+    ensures ok { OnOk result (text.new.items ≡ text.old.items ++ spec.stray_text thread answer.now) }
+    ensures kept { take (length text.old.items) text.new.items ≡ text.old.items }
+{
+    append_thread(text, thread)?;
+    text.extend_from_slice(b" stray ")?;
+    text.extend_from_slice(answer)?;
+    text.push(b'\n')?;
+    Ok(())
+}
+
+fn fault_words<'a>(kind: FaultKind) -> &'a [u8]
+    ensures { result.now ≡ codes "fault " ++ spec.fault_text kind }
+{
+    match kind {
+        FaultKind::NotMapped => b"fault unmapped",
+        FaultKind::NotWritable => b"fault readonly",
+        FaultKind::KeyDenied => b"fault key",
+    }
 }
 
 /// Appends what a call is told.

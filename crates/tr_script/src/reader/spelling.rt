@@ -1,13 +1,23 @@
 // What a single word spells.
 ghost use Rattle.std.specs.Prelude.{◌≡◌, ◌≢◌, ◌↔◌, ◌⊎◌, ℕ, ◌+◌, ◌^◌, ◌<◌, ◌≤◌, ◌∷◌, IsTrue, IfSome, IfNone, length, slice_index, codes};
 ghost use Rattle.std.specs.Fmt.{decimal};
-ghost use Rattle.tr_script.specs.Grammar.{process_name, thread_name};
+ghost use Rattle.tr_script.specs.Grammar.{process_name, thread_name, IsScriptAddress};
 ghost use Rattle.tr_types.specs.Commands.{IsName, IsPath, IsPathOfOne};
 
 /// Processes are `p1` to `p64`, threads `t1` to `t256`.
-const PROCESSES: u32 = 64;
+const PROCESSES: u64 = 64;
 
-const THREADS: u32 = 256;
+const THREADS: u64 = 256;
+
+/// The least and the greatest number of pages of an image.
+const LEAST_PAGES: u64 = 64;
+
+const MOST_PAGES: u64 = 16_384;
+
+/// The bytes of a word, and the address of the last word of the greatest image.
+const WORD_BYTES: u64 = 8;
+
+const LAST_ADDRESS: u64 = 67_108_856;
 
 /// The greatest length of a name in bytes.
 const NAME_LIMIT: usize = 255;
@@ -23,9 +33,9 @@ fn begins_plain(word: &[u8]) -> bool
 }
 
 /// The number that the word writes in decimal, without a sign or a leading zero.
-pub fn number_word(word: &[u8]) -> Option<u32>
+pub fn number_word(word: &[u8]) -> Option<u64>
     ensures some { IfSome result (λ n. word.now ≡ decimal n) }
-    ensures none { IfNone result ((n : ℕ) → n < 2 ^ 32 → word.now ≢ decimal n) }
+    ensures none { IfNone result ((n : ℕ) → n < 2 ^ 64 → word.now ≢ decimal n) }
 {
     if !begins_plain(word) {
         return None;
@@ -34,8 +44,30 @@ pub fn number_word(word: &[u8]) -> Option<u32>
     text.parse().ok()
 }
 
+/// The number of pages that the word writes, where an image can have so many.
+pub fn size_word(word: &[u8]) -> Option<u32>
+    ensures some { IfSome result (λ pages. (word.now ≡ decimal pages) × (64 ≤ pages) × (pages ≤ 16384)) }
+    ensures none { IfNone result ((pages : ℕ) → 64 ≤ pages → pages ≤ 16384 → word.now ≢ decimal pages) }
+{
+    match number_word(word)? {
+        pages if LEAST_PAGES <= pages && pages <= MOST_PAGES => Some(pages as u32),
+        _ => None,
+    }
+}
+
+/// The address in bytes that the word writes, where the greatest image has a word there.
+pub fn address_word(word: &[u8]) -> Option<u64>
+    ensures some { IfSome result (λ addr. (word.now ≡ decimal addr) × IsScriptAddress addr) }
+    ensures none { IfNone result ((addr : ℕ) → IsScriptAddress addr → word.now ≢ decimal addr) }
+{
+    match number_word(word)? {
+        addr if addr % WORD_BYTES == 0 && addr <= LAST_ADDRESS => Some(addr),
+        _ => None,
+    }
+}
+
 /// One less than the number that stands behind the letter, where it is from 1 to `most`.
-fn numbered_word(letter: u8, most: u32, word: &[u8]) -> Option<u32>
+fn numbered_word(letter: u8, most: u64, word: &[u8]) -> Option<u64>
     ensures some { IfSome result (λ n. (word.now ≡ letter ∷ decimal (n + 1)) × (n < most)) }
     ensures none { IfNone result ((n : ℕ) → n < most → word.now ≢ letter ∷ decimal (n + 1)) }
 {

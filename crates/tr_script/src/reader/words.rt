@@ -1,8 +1,9 @@
 // The words of a line, one after the other.
-ghost use Rattle.std.specs.Prelude.{◌≡◌, ◌≢◌, ◌+◌, ◌^◌, ◌<◌, ◌≤◌, [], ◌∷◌, IfOk, OnOk, length};
-ghost use Rattle.tr_script.specs.Grammar.{words_of};
+ghost use Rattle.std.specs.Prelude.{◌≡◌, ◌+◌, ◌^◌, ◌<◌, ◌≤◌, [], ◌∷◌, IfOk, OnOk, length};
 ghost use Rattle.std.specs.Option.{option_copied};
-ghost use Rattle.tr_script.specs.Reading.{OnBad, words_left, length_left};
+ghost use Rattle.tr_script.specs.Grammar.{Declared, words_of};
+ghost use Rattle.tr_script.specs.Places.{Slot};
+ghost use Rattle.tr_script.specs.Reading.{OnBad, words_left, length_left, Takes, IsBadOf, IsBadWord};
 
 use super::place::{Fault, Place};
 use memchr::memchr;
@@ -34,13 +35,19 @@ pub struct Words<'a> {
 }
 
 impl<'a> Model for Words<'a> {
-    ghost use Rattle.std.specs.Prelude.{List, ℕ, ◌+◌, ◌<◌, ◌^◌};
+    ghost use Rattle.std.specs.Prelude.{◌+◌, ◌<◌, ◌^◌};
     ghost use Rattle.std.specs.Option.{option_copied};
-    ghost use Rattle.tr_script.specs.Reading.{words_left, length_left};
+    ghost use Rattle.tr_script.specs.Reading.{Left, words_left, length_left, next_column};
 
-    ghost Value = { List (List ℕ) };
+    ghost Value = { Left };
 
-    ghost view = { λ w. words_left (option_copied w.rest) };
+    ghost view = {
+        λ w. record {
+          words = words_left (option_copied w.rest);
+          column = next_column (option_copied w.rest) w.place.column;
+          line = w.place.line;
+        }
+    };
 
     ghost invariant = { λ w. w.place.column + length_left (option_copied w.rest) < 2 ^ 32 };
 }
@@ -50,7 +57,9 @@ impl<'a> Words<'a> {
     pub fn of(line: &'a [u8], number: u32) -> Words<'a>
         requires number { 1 ≤ number }
         requires length { length line.now < 2 ^ 31 }
-        ensures { result ≡ words_of line.now }
+        ensures words { result.words ≡ words_of line.now }
+        ensures column { result.column ≡ 1 }
+        ensures line { result.line ≡ number }
     {
         Words {
             rest: Some(line),
@@ -63,8 +72,9 @@ impl<'a> Words<'a> {
 
     /// Takes the next word. Where there is none, its place is bad.
     pub fn word(&mut self) -> Result<Word<'a>, Fault>
-        ensures ok { IfOk result (λ word. self.old ≡ word.bytes.now ∷ self.new) }
-        ensures bad { OnBad result (self.old ≡ []) }
+        ensures ok { IfOk result (λ word. Takes self.old word.bytes.now self.new) }
+        ensures place { IfOk result (λ word. (word.place.column ≡ self.old.column) × (word.place.line ≡ self.old.line)) }
+        ensures bad { OnBad result (λ place. (d : Declared) (slot : Slot) → IsBadWord d slot self.old place) }
     {
         let place = self.place;
         let Some(rest) = self.rest else {
@@ -78,8 +88,8 @@ impl<'a> Words<'a> {
 
     /// That no word is left. A further word is bad.
     pub fn end(&self) -> Result<(), Fault>
-        ensures ok { OnOk result (self.now ≡ []) }
-        ensures bad { OnBad result (self.now ≢ []) }
+        ensures ok { OnOk result (self.now.words ≡ []) }
+        ensures bad { OnBad result (λ place. (d : Declared) → IsBadOf d [] self.now place) }
     {
         match self.rest {
             Some(_) => Err(Fault::Bad(self.place)),

@@ -6,7 +6,7 @@ abbrev pub invariant-loop-rest : goal.invariant-loop-rest
 invariant-loop-rest l = record {
   from_1 : 1 ≤ l.number;
   counted : l.number + length l.rest ≤ length l.fn.text + 1;
-  read : HasRead l.fn.text l.seen l.lines.items l.rest;
+  read : HasRead l.fn.text l.seen l.lines.items l.rest l.number;
 }
 
 abbrev pub decreases-loop-rest : goal.decreases-loop-rest
