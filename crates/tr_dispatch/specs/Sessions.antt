@@ -9,7 +9,7 @@ use Rattle.tr_types.specs.Marks.{mark_of}
 use Rattle.tr_types.specs.Tree.{Member}
 use Rattle.tr_types.specs.Denotes.{control_of, dir_of, Denotes}
 use Rattle.tr_types.specs.Commands.{IsCommand, consulted_path}
-use Rattle.tr_types.specs.World.{World, Phase, Idle, Runs, Committed, stepped, IsLegal, MayReply}
+use Rattle.tr_types.specs.World.{World, Phase, NotYet, Idle, Runs, Committed, stepped, IsLegal, MayReply}
 use Rattle.tr_types.specs.declared.action.Action.{Action}
 use Rattle.tr_types.specs.declared.action.Answer.{Answer}
 use Rattle.tr_types.specs.declared.action.Answer.TheVariants.{Done, Kern}
@@ -79,17 +79,17 @@ pub record WorksFor (command : Command) (call : CallRun) (words : List Word) : T
 -- the phase is one of a call with this command
 abbrev pub IsPhaseOf : Command → Phase → Type 0
 IsPhaseOf command Idle = ⊥
-IsPhaseOf command (Runs running drained refused) = running ≡ command
+IsPhaseOf command (Runs running loaded drained asked) = running ≡ command
 IsPhaseOf command (Committed reply) = Unit {0}
 
 -- what is known at a stage, with the answer that comes next
 abbrev pub SessionStageKnows : ℕ → Command → Stage → Answer → Bus → List Member → Phase → Option ℕ → Type 0
 SessionStageKnows thread command stage.Begin answer bus tree phase consulted =
-    IsBare bus thread × IsGrounded bus.words tree × (phase ≡ Runs command false None)
+    IsBare bus thread × IsGrounded bus.words tree × (phase ≡ Runs command false false NotYet)
 SessionStageKnows thread command stage.Finding answer bus tree phase consulted =
-    IsBare bus thread × IsGrounded bus.words tree × (phase ≡ Runs command false None) × (consulted ≡ Some 1) × (answer ≡ Kern (Found (found_at (consulted_path command)) None))
+    IsBare bus thread × IsGrounded bus.words tree × (phase ≡ Runs command false false NotYet) × (consulted ≡ Some 1) × (answer ≡ Kern (Found (found_at (consulted_path command)) None))
 SessionStageKnows thread command stage.Mapping answer bus tree phase consulted =
-    HasMapped bus thread command × IsGrounded bus.words tree × (phase ≡ Runs command false None) × (consulted ≡ Some 1) × (answer ≡ Kern (Mapped (root_mapped bus.words 1)))
+    HasMapped bus thread command × IsGrounded bus.words tree × (phase ≡ Runs command false false NotYet) × (consulted ≡ Some 1) × (answer ≡ Kern (Mapped (root_mapped bus.words 1)))
 SessionStageKnows thread command (stage.Working call) answer bus tree phase consulted =
     HasOpened bus thread command × WorksFor command call bus.words × CallKnows call answer bus.words tree phase × IsPhaseOf command phase × (consulted ≡ Some 1)
 SessionStageKnows thread command (stage.Closing reply) answer bus tree phase consulted =
@@ -124,7 +124,7 @@ pub record BeginsAt (thread : ℕ) (command : Command) (w : World) : Type 0 wher
   pub sits : Sits thread command w
   pub bare : IsBare w.machine.bus thread
   pub grounded : IsGrounded w.machine.bus.words w.tree
-  pub phase_is : w.phases thread ≡ Runs command false None
+  pub phase_is : w.phases thread ≡ Runs command false false NotYet
 
 -- an action that was answered so: it is legal, the words denote the tree afterwards, and then this is known
 pub record SessionGoes (Known : Answer → World → Type 0) (thread : ℕ) (mark : Mark) (action : Action) (w : World) (answer : Answer) : Type 0 where

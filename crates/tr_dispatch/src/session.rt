@@ -69,6 +69,13 @@ impl<'a> Session<'a> {
         }
     }
 
+    /// The thread whose call it is.
+    pub fn thread(&self) -> u16
+        ensures { result ≡ self.now.thread }
+    {
+        self.thread
+    }
+
     /// Goes on with the answer to the last action. The first call has no use for its answer.
     pub fn next(&mut self, alloc: Global, answer: &Answer) -> Result<SessionStep, AllocError>
         ensures thread { self.new.thread ≡ self.old.thread }

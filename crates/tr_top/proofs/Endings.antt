@@ -11,8 +11,8 @@ use Rattle.tr_types.specs.declared.entry.Entry.{Entry}
 use Rattle.tr_outside.specs.ImageBytes.{image_bytes}
 use Rattle.tr_outside.specs.Whole.{AppendsFront}
 use Rattle.zo_ops.specs.declared.call.Coffer.{Coffer}
-use Rattle.tr_top.specs.declared.runner.Stop.{Stop}
-use Rattle.tr_top.specs.declared.runner.Stop.TheVariants as stop
+use Rattle.tr_top.specs.declared.log.Stop.{Stop}
+use Rattle.tr_top.specs.declared.log.Stop.TheVariants as stop
 use Rattle.tr_script.specs.declared.script.Line.{Line}
 use Rattle.tr_script.specs.declared.status.Status.{Status}
 use Rattle.tr_script.specs.declared.status.Status.TheVariants.{Done, Usage, BadScript, ReadFault, WriteFault, NoMemory, Full}

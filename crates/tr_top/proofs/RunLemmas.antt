@@ -12,6 +12,7 @@ use Rattle.tr_types.specs.World.{World, stepped, MayCome, world_of}
 use Rattle.tr_types.specs.declared.entry.Entry.{Entry}
 use Rattle.tr_types.proofs.FoldLemmas.{state_after_more, Each_more}
 use Rattle.bus_machine.specs.View.{MachineView}
+use Rattle.tr_outside.specs.Causes.{Rose}
 use Rattle.tr_outside.specs.Whole.{AppendsFront}
 use Rattle.tr_script.specs.declared.script.Line.{Line}
 use Rattle.tr_script.specs.Text.{brief_text, brief_texts}
@@ -20,7 +21,7 @@ use Rattle.tr_top.specs.declared.log.Stop.TheVariants.{Full, NoMemory, OutFailed
 use Rattle.tr_top.specs.Along.{Place, Turns, Resting, ToTheEnd, ToAnOpening, Running, MayFollow, IsNext, IsAtEnd, followed, start_of}
 use Rattle.tr_top.specs.Run.{IsRun, pages_made, world_after, place_after, opening}
 use Rattle.tr_top.specs.Running.{Added, Goes, IsTied, IsSound, IsFullAt}
-use Rattle.tr_top.proofs.Confined.{confined}
+use Rattle.tr_types.proofs.MachineLemmas.{confined}
 
 pub world_more : (lines : List Line) (t : List Entry) (e : Entry) → world_after lines (t ++ e ∷ []) ≡ stepped (world_after lines t) e
 world_more lines t e = state_after_more stepped (world_of (opening lines)) t e
@@ -126,7 +127,7 @@ goes_then r lines old middle new taken mid now before between after one two = re
 }
   where
     rose : (b m a : ℕ) → b ≤ m → Rose m a → Rose b a
-    rose b m a low r = ?
+    rose b m a low r = omega (arith, low, r)
 
 -- The machine is that of the trace with one more entry.
 pub tied_more : (lines : List Line) (m next : MachineView) (old new : List Entry) (e : Entry) → IsTied lines m old → IsRun lines (old ++ e ∷ []) → new ≡ old ++ e ∷ [] → next.bus ≡ (stepped (world_after lines old) e).machine.bus → next.failed ≡ false → pages_of next.bus.words ≡ pages_of m.bus.words → IsTied lines next new

@@ -5,10 +5,9 @@ ghost use Rattle.tr_types.specs.NewImage as spec;
 use pm_words::{Image, NoMemory};
 use std::alloc::Global;
 use std::marker::Model;
-use zo_layout;
 
 /// Words of a page.
-const PAGE_WORDS: u32 = layout::PAGE_WORDS as u32;
+const PAGE_WORDS: u32 = zo_layout::PAGE_WORDS as u32;
 
 /// The first word of an image: the bytes `TREASURY`, the first one lowest.
 const SIGNATURE: u64 = 0x5952555341455254;
@@ -62,10 +61,10 @@ impl Tables {
     {
         Tables {
             pages,
-            owner_table: layout::owner_table(pages),
-            coffer_table: layout::coffer_table(pages),
-            bucket_page: layout::bucket_page(pages),
-            root_control: layout::root_control(pages),
+            owner_table: zo_layout::owner_table(pages),
+            coffer_table: zo_layout::coffer_table(pages),
+            bucket_page: zo_layout::bucket_page(pages),
+            root_control: zo_layout::root_control(pages),
         }
     }
 
