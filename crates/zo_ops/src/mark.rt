@@ -47,7 +47,7 @@ pub(crate) fn mark_of(dir: u64, command: &Command, action: &Action) -> Mark
     }
 }
 
-/// The mark of a register PKRU that a thread takes: it closes all keys, or opens one at least.
+/// The mark of a register PKRU that a thread takes: `Open` where a key other than 0 is enabled.
 fn pkru_mark(pkru: u32) -> Mark
     ensures { result ≡ pkru_mark pkru }
 {
