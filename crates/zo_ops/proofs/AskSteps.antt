@@ -1,11 +1,11 @@
 -- What a call gives with the call for pages: the kernel's answer, whichever it is, leaves the tree.
-use Rattle.std.proofs.Common.{◌≡◌, ℕ, ◌<◌, ◌≤◌, List, [], ◌∷◌, length, take, Contains, None, true, refl, sym, ap, subst, ◌∙◌, arith}
+use Rattle.std.proofs.Common.{◌≡◌, ℕ, ◌<◌, ◌≤◌, List, [], ◌∷◌, length, take, Contains, true, refl, sym, ap, subst, ◌∙◌, arith}
 use Rattle.pm_words.specs.Word.{Word}
 use Rattle.zo_layout.specs.Layout.{bucket_of, page_at, root_control, root_page}
 use Rattle.tr_types.specs.KernelView.{pages_of, free_pages, given_to}
 use Rattle.tr_types.specs.Tree.{Member}
 use Rattle.tr_types.specs.Denotes.{value, Chain}
-use Rattle.tr_types.specs.World.{Phase, Runs}
+use Rattle.tr_types.specs.World.{Phase, Runs, NotYet}
 use Rattle.tr_types.specs.declared.action.Action.TheVariants.{Kernel}
 use Rattle.tr_types.specs.declared.action.Answer.{Answer}
 use Rattle.tr_types.specs.declared.action.Answer.TheVariants.{Word as WordIs, Done, Fault, Kern}
@@ -120,7 +120,7 @@ module _ (coffer : Coffer) (command : Command) (head : ℕ) (spot : Spot) (words
     spot_by (Fresh first) none = none
 
   -- what the kernel answers, and what is known then
-  answered : (answer : KernAnswer) → Answers words (Kernel (Enlarge 1 (spot_pages spot))) (Kern answer) → Goes (StageKnows coffer command (stage.Drawing head spot)) Plain (Kernel (Enlarge 1 (spot_pages spot))) words tree (Runs command true None) (Kern answer)
+  answered : (answer : KernAnswer) → Answers words (Kernel (Enlarge 1 (spot_pages spot))) (Kern answer) → Goes (StageKnows coffer command (stage.Drawing head spot)) Plain (Kernel (Enlarge 1 (spot_pages spot))) words tree (Runs command true true NotYet) (Kern answer)
   answered (kern.Pages pages') (one, least, most, (enough, are)) = record {
     legal = (refl, refl, few_pages spot, change_is_due coffer command head words tree k valid);
     denotes = ground_denotes coffer _ tree (ground new enough is);
@@ -164,7 +164,7 @@ module _ (coffer : Coffer) (command : Command) (head : ℕ) (spot : Spot) (words
   kernel_only P p (Fault f) a = absurd a
   kernel_only P p (Kern answer) a = p answer a
 
-  pub ask_gives : (phase : Phase) → phase ≡ Runs command true None → NextGives coffer command (next.Act (Kernel (Enlarge 1 (spot_pages spot))) (stage.Drawing head spot)) words tree phase
+  pub ask_gives : (phase : Phase) → phase ≡ Runs command true true NotYet → NextGives coffer command (next.Act (Kernel (Enlarge 1 (spot_pages spot))) (stage.Drawing head spot)) words tree phase
   ask_gives phase is = record {
     reachable = (refl, some_page spot, omega (arith, few_pages spot));
     goes = kernel_only _ (λ answer a. subst (λ p. Goes (StageKnows coffer command (stage.Drawing head spot)) Plain (Kernel (Enlarge 1 (spot_pages spot))) words tree p (Kern answer)) (sym is) (answered answer a));

@@ -1,5 +1,5 @@
 -- What comes after an answer, exit by exit.
-use Rattle.std.proofs.Common.{◌≡◌, ◌≢◌, ℕ, ◌^◌, ◌<◌, ◌≤◌, List, [], ◌∷◌, refl, sym, ap, subst, ◌∙◌, arith}
+use Rattle.std.proofs.Common.{◌≡◌, ◌≢◌, ℕ, ◌^◌, ◌<◌, ◌≤◌, List, [], ◌∷◌, true, refl, sym, ap, subst, ◌∙◌, arith}
 use Rattle.pm_words.specs.Word.{Word}
 use Rattle.zo_layout.specs.Layout.{page_at, first_entry_page, first_free_entry, file_map, pool_head}
 use Rattle.tr_types.specs.Tree.{Member}
@@ -34,7 +34,7 @@ pub ask_pool_gives : (coffer : Coffer) (command : Command) (head : ℕ) (spot : 
 ask_pool_gives coffer command head spot addr is valid words tree phase (k, at, (drained, runs)) =
     let pool : addr ≡ pool_of words = is ∙ ap (λ c. pool_head c 0) k.ground.control in
     let empty : value words addr ≡ 0 = ap (value words) pool ∙ k.ground.laid.pool in
-    pool_gives coffer command addr (stage.Placing (Pool head spot)) words tree drained (subst (IsCofferWord words) (sym is) (pool_reached words k.ground.roles k.ground.files coffer.control.at k.ground.laid.built k.ground.control)) (ground_denotes coffer words tree k.ground) phase runs pool empty
+    pool_gives coffer command addr (stage.Placing (Pool head spot)) words tree true drained (subst (IsCofferWord words) (sym is) (pool_reached words k.ground.roles k.ground.files coffer.control.at k.ground.laid.built k.ground.control)) (ground_denotes coffer words tree k.ground) phase runs pool empty
     (k, at, refl, ap WordIs empty)
 
 -- the word before the free entries
@@ -58,13 +58,13 @@ module _ (coffer : Coffer) (command : Command) (head word : ℕ) where
   pub no_free_gives : word ≡ 0 → (addr : ℕ) → addr ≡ first_entry_page coffer.dir.at → AfterKnowing coffer command (PlaceKnows coffer command head word) (next.Act (Load addr) (stage.Placing (FirstPage head)))
   no_free_gives zero addr is valid words tree phase (k, (drained, runs), at) =
       let none = no_free words k.ground.roles k.ground.files k.ground.frees word (free_chain_at words tree k at) k.ground.laid.free zero in
-      load_gives coffer command addr (stage.Placing (FirstPage head)) words tree drained (subst (IsCofferWord words) (sym is) (dir_word_reached words k.ground.roles k.ground.files coffer.dir.at 4 k.ground.laid.built k.ground.dir (omega arith))) (ground_denotes coffer words tree k.ground) phase runs
+      load_gives coffer command addr (stage.Placing (FirstPage head)) words tree true drained (subst (IsCofferWord words) (sym is) (dir_word_reached words k.ground.roles k.ground.files coffer.dir.at 4 k.ground.laid.built k.ground.dir (omega arith))) (ground_denotes coffer words tree k.ground) phase runs
       (λ p r. (k, none, r, (value words addr, refl)))
 
   pub some_free_gives : (entry : Addr) → entry.at ≡ word → 0 < word → AfterKnowing coffer command (PlaceKnows coffer command head word) (next.Act (Load entry.at) (stage.Placing (NextFree head entry)))
   some_free_gives entry is some valid words tree phase (k, (drained, runs), at) =
       let found = some_free words k.ground.roles k.ground.files k.ground.frees word (free_chain_at words tree k at) k.ground.laid.free some in
-      load_gives coffer command entry.at (stage.Placing (NextFree head entry)) words tree drained (subst (IsCofferWord words) (sym is) (entry_address words word k.ground.laid.built.size (place_is words k.ground.roles word found.2))) (ground_denotes coffer words tree k.ground) phase runs
+      load_gives coffer command entry.at (stage.Placing (NextFree head entry)) words tree true drained (subst (IsCofferWord words) (sym is) (entry_address words word k.ground.laid.built.size (place_is words k.ground.roles word found.2))) (ground_denotes coffer words tree k.ground) phase runs
       (λ p r. (k, (found.0, found.1 ∙ ap (λ n. n ∷ found.0) (sym is)), r, refl))
 
   pub astray_free_gives : 2 ^ 60 ≤ word → (n : Next) → AfterKnowing coffer command (PlaceKnows coffer command head word) n
@@ -74,7 +74,7 @@ module _ (coffer : Coffer) (command : Command) (head word : ℕ) where
 -- No file has the name: a new file asks for a place, a look at it has its reply.
 pub missing_create_gives : (coffer : Coffer) (command : Command) (head addr : ℕ) → IsCreate command → addr ≡ first_free_entry coffer.dir.at → AfterKnowing coffer command (MissKnows coffer command head) (next.Act (Load addr) (stage.Placing (FreeEntry head)))
 missing_create_gives coffer command head addr create is valid words tree phase (k, missing, at, some, (drained, runs)) =
-    load_gives coffer command addr (stage.Placing (FreeEntry head)) words tree drained (subst (IsCofferWord words) (sym is) (dir_word_reached words k.roles k.files coffer.dir.at 5 k.laid.built k.dir (omega arith))) (ground_denotes coffer words tree k) phase runs
+    load_gives coffer command addr (stage.Placing (FreeEntry head)) words tree true drained (subst (IsCofferWord words) (sym is) (dir_word_reached words k.roles k.files coffer.dir.at 5 k.laid.built k.dir (omega arith))) (ground_denotes coffer words tree k) phase runs
     (λ p r. (record { ground = k; create = create; missing = missing; head_is = at }, r, ap (λ a. WordIs (value words a)) is))
 
 pub missing_stat_gives : (coffer : Coffer) (command : Command) (head : ℕ) → IsStat command → AfterKnowing coffer command (MissKnows coffer command head) (next.Over NotFound)
@@ -88,7 +88,7 @@ pub found_stat_gives : (coffer : Coffer) (command : Command) (target : ℕ) (lin
 found_stat_gives coffer command target link stat is valid words tree phase (f, some, (drained, runs)) =
     let at : link.at ≡ page_at f.file.page = is ∙ f.target_is in
     let h = f.ground.laid.built.each f.file f.among in
-    load_gives coffer command link.at (stage.Telling (telling.Kind link)) words tree drained (subst (IsCofferWord words) (sym at) (page_reached words f.file.page f.ground.laid.built.size h.coffers)) (ground_denotes coffer words tree f.ground) phase runs
+    load_gives coffer command link.at (stage.Telling (telling.Kind link)) words tree true drained (subst (IsCofferWord words) (sym at) (page_reached words f.file.page f.ground.laid.built.size h.coffers)) (ground_denotes coffer words tree f.ground) phase runs
     (λ p r. ((record { ground = f.ground; file = f.file; among = f.among; named = f.named; target_is = at }, refl), stat, some, r))
 
 -- a file's page is an address
@@ -107,7 +107,7 @@ found_not_astray coffer command target n far valid words tree phase (f, some, ru
 pub kind_gives : (coffer : Coffer) (command : Command) (target : Addr) (addr x : ℕ) → addr ≡ file_map target.at → AfterKnowing coffer command (StageKnows coffer command (stage.Telling (telling.Kind target)) (WordIs x)) (next.Act (Load addr) (stage.Telling (telling.Map target)))
 kind_gives coffer command target addr x is valid words tree phase ((f, answer), stat, some, (drained, runs)) =
     let h = f.ground.laid.built.each f.file f.among in
-    load_gives coffer command addr (stage.Telling (telling.Map target)) words tree drained (subst (IsCofferWord words) (sym (is ∙ ap file_map f.target_is)) (page_word_reached words f.file.page 1 f.ground.laid.built.size h.coffers (omega arith))) (ground_denotes coffer words tree f.ground) phase runs
+    load_gives coffer command addr (stage.Telling (telling.Map target)) words tree true drained (subst (IsCofferWord words) (sym (is ∙ ap file_map f.target_is)) (page_word_reached words f.file.page 1 f.ground.laid.built.size h.coffers (omega arith))) (ground_denotes coffer words tree f.ground) phase runs
     (λ p r. ((f, ap (λ a. WordIs (value words a)) is), stat, some, r))
 
 pub not_kind_gives : (coffer : Coffer) (command : Command) (target : Addr) (answer : Answer) (n : Next) → ((x : ℕ) → answer ≡ WordIs x → x ≢ 1) → AfterKnowing coffer command (StageKnows coffer command (stage.Telling (telling.Kind target)) answer) n

@@ -1,5 +1,7 @@
 -- what it is to be among a list
 pub mod Members
+-- which keys a register enables, key by key
+pub mod MarkLemmas
 -- where words of the root coffer lie
 pub mod Places
 -- the names of a path of one name

@@ -1,9 +1,9 @@
 -- What a call gives with a load: the words and the tree stay, and the call knows the word.
-use Rattle.std.proofs.Common.{◌≡◌, ℕ, List, None, Bool, true, refl, sym, subst, eq-eqb}
+use Rattle.std.proofs.Common.{◌≡◌, ℕ, List, Bool, true, refl, sym, subst, eq-eqb}
 use Rattle.pm_words.specs.Word.{Word}
 use Rattle.tr_types.specs.Tree.{Member}
 use Rattle.tr_types.specs.Denotes.{value, Denotes}
-use Rattle.tr_types.specs.World.{Phase, Runs, drained_after, pool_of}
+use Rattle.tr_types.specs.World.{Phase, Runs, NotYet, drained_after, pool_of}
 use Rattle.tr_types.specs.declared.action.Action.TheVariants.{Load}
 use Rattle.tr_types.specs.declared.action.Answer.{Answer}
 use Rattle.tr_types.specs.declared.action.Answer.TheVariants.{Word as WordIs, Done, Fault, Kern}
@@ -21,29 +21,29 @@ use Rattle.zo_ops.proofs.DenoteLaws.{built_denotes}
 pub ground_denotes : (coffer : Coffer) (words : List Word) (tree : List Member) → Ground coffer words tree → Denotes words tree
 ground_denotes coffer words tree k = subst (Denotes words) (sym k.tree_is) (built_denotes words k.roles k.files k.laid.built)
 
-module _ (coffer : Coffer) (command : Command) (addr : ℕ) (stage : Stage) (words : List Word) (tree : List Member) (drained : Bool) (reached : IsCofferWord words addr) (denotes : Denotes words tree) where
-  loaded_goes : (phase : Phase) → phase ≡ Runs command drained None → (knows : StageKnows coffer command stage (WordIs (value words addr)) words tree (Runs command (drained_after (pool_of words) drained (Load addr) (WordIs (value words addr))) None)) → (answer : Answer) → Answers words (Load addr) answer → Goes (StageKnows coffer command stage) Plain (Load addr) words tree phase answer
+module _ (coffer : Coffer) (command : Command) (addr : ℕ) (stage : Stage) (words : List Word) (tree : List Member) (loaded drained : Bool) (reached : IsCofferWord words addr) (denotes : Denotes words tree) where
+  loaded_goes : (phase : Phase) → phase ≡ Runs command loaded drained NotYet → (knows : StageKnows coffer command stage (WordIs (value words addr)) words tree (Runs command true (drained_after (pool_of words) drained (Load addr) (WordIs (value words addr))) NotYet)) → (answer : Answer) → Answers words (Load addr) answer → Goes (StageKnows coffer command stage) Plain (Load addr) words tree phase answer
   loaded_goes phase is knows (WordIs x) a = subst (λ p. Goes (StageKnows coffer command stage) Plain (Load addr) words tree p (WordIs x)) (sym is) (record {
     legal = tt;
     denotes = denotes;
-    knows = subst (λ y. StageKnows coffer command stage (WordIs y) words tree (Runs command (drained_after (pool_of words) drained (Load addr) (WordIs y)) None)) (sym a.1) knows;
+    knows = subst (λ y. StageKnows coffer command stage (WordIs y) words tree (Runs command true (drained_after (pool_of words) drained (Load addr) (WordIs y)) NotYet)) (sym a.1) knows;
   })
   loaded_goes phase is knows Done a = absurd a
   loaded_goes phase is knows (Fault kind) a = absurd a
   loaded_goes phase is knows (Kern answer) a = absurd a
 
   -- a load of any word
-  pub load_gives : (phase : Phase) → phase ≡ Runs command drained None → ((p : Phase) → IsRunning command p → StageKnows coffer command stage (WordIs (value words addr)) words tree p) → NextGives coffer command (next.Act (Load addr) stage) words tree phase
+  pub load_gives : (phase : Phase) → phase ≡ Runs command loaded drained NotYet → ((p : Phase) → IsRunning command p → StageKnows coffer command stage (WordIs (value words addr)) words tree p) → NextGives coffer command (next.Act (Load addr) stage) words tree phase
   load_gives phase is knows = record {
     reachable = reached;
     goes = loaded_goes phase is (knows _ (drained_after (pool_of words) drained (Load addr) (WordIs (value words addr)), refl));
   }
 
   -- a load of the pool's head, which shows no page
-  pub pool_gives : (phase : Phase) → phase ≡ Runs command drained None → addr ≡ pool_of words → value words addr ≡ 0 → StageKnows coffer command stage (WordIs (value words addr)) words tree (Runs command true None) → NextGives coffer command (next.Act (Load addr) stage) words tree phase
+  pub pool_gives : (phase : Phase) → phase ≡ Runs command loaded drained NotYet → addr ≡ pool_of words → value words addr ≡ 0 → StageKnows coffer command stage (WordIs (value words addr)) words tree (Runs command true true NotYet) → NextGives coffer command (next.Act (Load addr) stage) words tree phase
   pool_gives phase is pool empty knows = record {
     reachable = reached;
-    goes = loaded_goes phase is (subst (λ d. StageKnows coffer command stage (WordIs (value words addr)) words tree (Runs command d None)) (sym shown) knows);
+    goes = loaded_goes phase is (subst (λ d. StageKnows coffer command stage (WordIs (value words addr)) words tree (Runs command true d NotYet)) (sym shown) knows);
   }
     where
       shown : drained_after (pool_of words) drained (Load addr) (WordIs (value words addr)) ≡ true

@@ -8,7 +8,7 @@ use Rattle.std.proofs.lemmas.Map.Views.{Contains-from_any}
 use Rattle.pm_words.specs.Word.{Word}
 use Rattle.tr_types.specs.Tree.{Member}
 use Rattle.tr_types.specs.Denotes.{dir_of}
-use Rattle.tr_types.specs.World.{Phase}
+use Rattle.tr_types.specs.World.{Phase, Runs, NotYet}
 use Rattle.tr_types.specs.declared.action.Action.TheVariants.{Load}
 use Rattle.tr_types.specs.declared.action.Answer.{Answer}
 use Rattle.tr_types.specs.declared.command.Command.{Command}
@@ -19,16 +19,18 @@ use Rattle.zo_ops.specs.declared.call.Coffer.{Coffer}
 use Rattle.zo_ops.specs.declared.call.Next.{Next}
 use Rattle.zo_ops.specs.declared.call.Next.TheVariants as next
 use Rattle.zo_ops.specs.declared.call.Stage.TheVariants as stage
+use Rattle.zo_ops.specs.declared.count.Asked.TheVariants.{Nothing as CountNothing}
 use Rattle.zo_ops.specs.declared.count.Count.{Count}
 use Rattle.zo_ops.specs.declared.count.CountStep.{CountStep}
 use Rattle.zo_ops.specs.declared.count.CountStep.TheVariants as count_step
+use Rattle.zo_ops.specs.declared.lookup.Asked.TheVariants.{Nothing as LookNothing}
 use Rattle.zo_ops.specs.declared.lookup.Lookup.{Lookup}
 use Rattle.zo_ops.specs.declared.lookup.LookStep.{LookStep}
 use Rattle.zo_ops.specs.declared.lookup.LookStep.TheVariants as look_step
 use Rattle.tr_types.specs.Commands.{IsCommand, IsPathOfOne}
 use Rattle.zo_ops.specs.Laid.{Role, FileAt, IsBuilt, AreDistinct}
 use Rattle.zo_ops.specs.Looking.{LookKnows, LookGives, CountKnows, CountGives}
-use Rattle.zo_ops.specs.Knows.{AfterKnowing, StageKnows, FindKnows, MissKnows, IsCreate, IsStat, name_of}
+use Rattle.zo_ops.specs.Knows.{AfterKnowing, StageKnows, IsRunning, IsRunningFrom, FindKnows, MissKnows, IsCreate, IsStat, name_of}
 use Rattle.zo_ops.proofs.LoadSteps.{ground_denotes, load_gives}
 use Rattle.zo_ops.proofs.ReplySteps.{counted_gives}
 use Rattle.zo_ops.proofs.Places.{place_near}
@@ -87,7 +89,23 @@ abbrev pub LookPromise : Lookup → Answer → Lookup → LookStep → List ℕ 
 LookPromise look answer after result name =
     (words : List Word) (roles : ℕ → Role) (files : List FileAt) → IsBuilt words roles files → look.dir.at ≡ dir_of words → 0 < length name → length name ≤ 255 → LookKnows look name answer words files → LookGives after name words files result
 
-module _ (coffer : Coffer) (command : Command) (look after : Lookup) (answer : Answer) (result : LookStep) (promise : LookPromise look answer after result (name_of command)) where
+-- a call that asks for something has loaded
+pub has_asked : (Asks : Type 0) (command : Command) (phase : Phase) → IsRunningFrom Asks command phase → Asks → IsRunning command phase
+has_asked Asks command phase (loaded, drained, runs, has) asks = (drained, runs ∙ ap (λ l. Runs command l drained NotYet) (has asks))
+
+-- a load is no other step
+abbrev IsLookLoad : LookStep → Type 0
+IsLookLoad (look_step.Load addr) = Unit {0}
+IsLookLoad (look_step.Found target from) = ⊥
+IsLookLoad (look_step.Missing head) = ⊥
+IsLookLoad (look_step.Damaged addr) = ⊥
+
+abbrev IsCountLoad : CountStep → Type 0
+IsCountLoad (count_step.Load addr) = Unit {0}
+IsCountLoad (count_step.Counted names) = ⊥
+IsCountLoad (count_step.Damaged addr) = ⊥
+
+module _ (coffer : Coffer) (command : Command) (look after : Lookup) (answer : Answer) (result : LookStep) (first : ℕ) (loads : look.asked ≡ LookNothing → result ≡ look_step.Load first) (promise : LookPromise look answer after result (name_of command)) where
   abbrev Known : List Word → List Member → Phase → Type 0
   Known = StageKnows coffer command (stage.Looking look) answer
 
@@ -95,19 +113,19 @@ module _ (coffer : Coffer) (command : Command) (look after : Lookup) (answer : A
   kept valid words tree phase (k, knows, dir, some, runs) = promise words k.roles k.files k.laid.built (ap (λ d. d.at) dir ∙ k.dir) some (name_short command valid) knows
 
   pub look_load_gives : (addr : ℕ) → after.dir ≡ look.dir → result ≡ look_step.Load addr → AfterKnowing coffer command Known (next.Act (Load addr) (stage.Looking after))
-  look_load_gives addr same is valid words tree phase (k, knows, dir, some, (drained, runs)) =
-      let g = subst (LookGives after (name_of command) words k.files) is (kept valid words tree phase (k, knows, dir, some, (drained, runs))) in
-      load_gives coffer command addr (stage.Looking after) words tree drained g.0 (ground_denotes coffer words tree k) phase runs (λ p r. (k, g.1, same ∙ dir, some, r))
+  look_load_gives addr same is valid words tree phase (k, knows, dir, some, (loaded, drained, runs, has)) =
+      let g = subst (LookGives after (name_of command) words k.files) is (kept valid words tree phase (k, knows, dir, some, (loaded, drained, runs, has))) in
+      load_gives coffer command addr (stage.Looking after) words tree loaded drained g.0 (ground_denotes coffer words tree k) phase runs (λ p r. (k, g.1, same ∙ dir, some, (true, r.0, r.1, λ _. refl)))
 
   pub look_found_gives : (target from : ℕ) (n : Next) → result ≡ look_step.Found target from → AfterKnowing coffer command (FindKnows coffer command target) n → AfterKnowing coffer command Known n
   look_found_gives target from n is finds valid words tree phase (k, knows, dir, some, runs) =
       let g = subst (LookGives after (name_of command) words k.files) is (kept valid words tree phase (k, knows, dir, some, runs)) in
-      finds valid words tree phase (record { ground = k; file = g.0; among = g.1; named = g.2; target_is = g.3 }, some, runs)
+      finds valid words tree phase (record { ground = k; file = g.0; among = g.1; named = g.2; target_is = g.3 }, some, has_asked _ command phase runs (λ e. subst IsLookLoad (sym (loads e) ∙ is) tt))
 
   pub look_missing_gives : (head : ℕ) (n : Next) → result ≡ look_step.Missing head → AfterKnowing coffer command (MissKnows coffer command head) n → AfterKnowing coffer command Known n
   look_missing_gives head n is misses valid words tree phase (k, knows, dir, some, runs) =
       let g = subst (LookGives after (name_of command) words k.files) is (kept valid words tree phase (k, knows, dir, some, runs)) in
-      misses valid words tree phase (k, g.0, g.1, some, runs)
+      misses valid words tree phase (k, g.0, g.1, some, has_asked _ command phase runs (λ e. subst IsLookLoad (sym (loads e) ∙ is) tt))
 
   pub look_damaged_gives : (addr : ℕ) (n : Next) → result ≡ look_step.Damaged addr → AfterKnowing coffer command Known n
   look_damaged_gives addr n is valid words tree phase s = absurd (subst (LookGives after (name_of command) words s.0.files) is (kept valid words tree phase s))
@@ -117,7 +135,7 @@ abbrev pub CountPromise : Count → Answer → Count → CountStep → Type 0
 CountPromise count answer after result =
     (words : List Word) (roles : ℕ → Role) (files : List FileAt) → IsBuilt words roles files → length files < 2 ^ 63 → count.dir.at ≡ dir_of words → CountKnows count answer words files → CountGives after words files result
 
-module _ (coffer : Coffer) (command : Command) (count after : Count) (answer : Answer) (result : CountStep) (promise : CountPromise count answer after result) where
+module _ (coffer : Coffer) (command : Command) (count after : Count) (answer : Answer) (result : CountStep) (first : ℕ) (loads : count.asked ≡ CountNothing → result ≡ count_step.Load first) (promise : CountPromise count answer after result) where
   abbrev Counted : List Word → List Member → Phase → Type 0
   Counted = StageKnows coffer command (stage.Counting count) answer
 
@@ -125,14 +143,14 @@ module _ (coffer : Coffer) (command : Command) (count after : Count) (answer : A
   counts words tree phase (k, knows, dir, root, stat, runs) = promise words k.roles k.files k.laid.built (few_files words k.roles k.files k.laid.built) (ap (λ d. d.at) dir ∙ k.dir) knows
 
   pub count_load_gives : (addr : ℕ) → after.dir ≡ count.dir → result ≡ count_step.Load addr → AfterKnowing coffer command Counted (next.Act (Load addr) (stage.Counting after))
-  count_load_gives addr same is valid words tree phase (k, knows, dir, root, stat, (drained, runs)) =
-      let g = subst (CountGives after words k.files) is (counts words tree phase (k, knows, dir, root, stat, (drained, runs))) in
-      load_gives coffer command addr (stage.Counting after) words tree drained g.0 (ground_denotes coffer words tree k) phase runs (λ p r. (k, g.1, same ∙ dir, root, stat, r))
+  count_load_gives addr same is valid words tree phase (k, knows, dir, root, stat, (loaded, drained, runs, has)) =
+      let g = subst (CountGives after words k.files) is (counts words tree phase (k, knows, dir, root, stat, (loaded, drained, runs, has))) in
+      load_gives coffer command addr (stage.Counting after) words tree loaded drained g.0 (ground_denotes coffer words tree k) phase runs (λ p r. (k, g.1, same ∙ dir, root, stat, (true, r.0, r.1, λ _. refl)))
 
   pub count_over_gives : (names : ℕ) → result ≡ count_step.Counted names → AfterKnowing coffer command Counted (next.Over (Info Dir names 0 0 438))
   count_over_gives names is valid words tree phase (k, knows, dir, root, stat, runs) =
       let g = subst (CountGives after words k.files) is (counts words tree phase (k, knows, dir, root, stat, runs)) in
-      counted_gives coffer command names words tree phase stat root k g runs
+      counted_gives coffer command names words tree phase stat root k g (has_asked _ command phase runs (λ e. subst IsCountLoad (sym (loads e) ∙ is) tt))
 
   pub count_damaged_gives : (addr : ℕ) (n : Next) → result ≡ count_step.Damaged addr → AfterKnowing coffer command Counted n
   count_damaged_gives addr n is valid words tree phase s = absurd (subst (CountGives after words s.0.files) is (counts words tree phase s))

@@ -2,7 +2,7 @@
 use Rattle.std.proofs.Common.{◌≡◌, ℕ, ◌<◌, ◌≤◌, List, [], ◌∷◌, length, drop, filter, codes, Contains, Option, Some, None, true, refl, sym, ap, subst, ◌∙◌, arith, inl, inr}
 use Rattle.pm_words.specs.Word.{Word}
 use Rattle.tr_types.specs.Tree.{Member, Node, Directory, FileOf, node_at, names_of, reply_to, tree_after, is_child, IsChange, state_reply}
-use Rattle.tr_types.specs.World.{Phase, Runs, MayReply}
+use Rattle.tr_types.specs.World.{Phase, Runs, Refused, MayReply}
 use Rattle.tr_types.specs.declared.command.Command.{Command}
 use Rattle.tr_types.specs.declared.command.Command.TheVariants.{Create, Stat}
 use Rattle.tr_types.specs.declared.command.Kind.TheVariants.{File, Dir}
@@ -40,9 +40,9 @@ missing_node command files names missing = ap (node_at (tree_of files)) names �
 file_node : (command : Command) (files : List FileAt) (f : FileAt) → names_of (path_of command) ≡ name_of command ∷ [] → Contains files f → f.name ≡ name_of command → node_of (tree_of files) command ≡ Some (FileOf [])
 file_node command files f names among named = ap (node_at (tree_of files)) (names ∙ ap (λ (n : List ℕ). n ∷ []) (sym named)) ∙ node_of_file files f among
 
--- a reply that changes nothing, of a call that was refused nothing
+-- a reply that changes nothing, of a call that has asked for no pages
 plain_reply : (coffer : Coffer) (command : Command) (reply : Reply) (words : List Word) (tree : List Member) (phase : Phase) → Ground coffer words tree → IsRunning command phase → reply ≡ reply_to tree command → tree_after tree command ≡ tree → NextGives coffer command (next.Over reply) words tree phase
-plain_reply coffer command reply words tree phase k (drained, is) replies keeps = (subst (λ p. MayReply tree p reply) (sym is) (replies, keeps), k)
+plain_reply coffer command reply words tree phase k (drained, is) replies keeps = (subst (λ p. MayReply tree p reply) (sym is) (refl, replies, keeps), k)
 
 exists_reply : (tree : List Member) (command : Command) (node : Node) → IsCreate command → node_of tree command ≡ Some node → (Exists ≡ reply_to tree command) × (tree_after tree command ≡ tree)
 exists_reply tree (Create path mode) node create is = (rw is refl, rw is refl)
@@ -92,9 +92,9 @@ pub few_pages : (spot : Spot) → spot_pages spot ≤ 2
 few_pages (Free entry nxt) = omega arith
 few_pages (Fresh first) = omega arith
 
-pub nospace_gives : (coffer : Coffer) (command : Command) (head : ℕ) (spot : Spot) (asked free : ℕ) (words : List Word) (tree : List Member) (phase : Phase) → IsCommand command → Links coffer command head words tree → asked ≡ spot_pages spot → phase ≡ Runs command true (Some (record { asked = asked; free = free })) → NextGives coffer command (next.Over (NoSpace asked free)) words tree phase
+pub nospace_gives : (coffer : Coffer) (command : Command) (head : ℕ) (spot : Spot) (asked free : ℕ) (words : List Word) (tree : List Member) (phase : Phase) → IsCommand command → Links coffer command head words tree → asked ≡ spot_pages spot → phase ≡ Runs command true true (Refused (record { asked = asked; free = free })) → NextGives coffer command (next.Over (NoSpace asked free)) words tree phase
 nospace_gives coffer command head spot asked free words tree phase valid k asks is =
-    (subst (λ p. MayReply tree p (NoSpace asked free)) (sym is) (refl, subst (λ n. n ≤ 2) (sym asks) (few_pages spot), change_is_due coffer command head words tree k valid), k.ground)
+    (subst (λ p. MayReply tree p (NoSpace asked free)) (sym is) (refl, refl, subst (λ n. n ≤ 2) (sym asks) (few_pages spot), change_is_due coffer command head words tree k valid), k.ground)
 
 pub made_gives : (coffer : Coffer) (command : Command) (run : PlanRun) (words : List Word) (tree : List Member) (phase : Phase) → Stored coffer run words tree phase → NextGives coffer command (next.Over Made) words tree phase
 made_gives coffer command run words tree phase s = (subst (λ p. MayReply tree p Made) (sym s.phase_is) refl, s.ground)

@@ -1,5 +1,5 @@
 -- What a call gives with a store of its plan: a preparing one keeps the tree, and the commit makes the file.
-use Rattle.std.proofs.Common.{◌≡◌, ◌≢◌, ℕ, ◌+◌, ◌<◌, ◌≤◌, List, [], ◌∷◌, ◌++◌, length, take, get_or, None, true, refl, sym, ap, subst, ◌∙◌, arith, eq-eqb, inl, inr}
+use Rattle.std.proofs.Common.{◌≡◌, ◌≢◌, ℕ, ◌+◌, ◌<◌, ◌≤◌, List, [], ◌∷◌, ◌++◌, length, take, get_or, true, refl, sym, ap, subst, ◌∙◌, arith, eq-eqb, inl, inr}
 use Rattle.std.proofs.lemmas.Bool.{ne_eqb}
 use Rattle.std.proofs.lemmas.List.{take_more, take_all}
 use Rattle.std.proofs.lemmas.List.Sums.{fold-append}
@@ -9,7 +9,7 @@ use Rattle.zo_layout.specs.Layout.{bucket_head, bucket_of}
 use Rattle.tr_types.specs.Marks.{mark_of}
 use Rattle.tr_types.specs.Tree.{Member, tree_after, reply_to, IsChange}
 use Rattle.tr_types.specs.Denotes.{Denotes, dir_of, control_of}
-use Rattle.tr_types.specs.World.{Phase, Runs, Committed}
+use Rattle.tr_types.specs.World.{Phase, Runs, Given, Committed}
 use Rattle.tr_types.specs.declared.action.Action.TheVariants.{Store}
 use Rattle.tr_types.specs.declared.action.Answer.{Answer}
 use Rattle.tr_types.specs.declared.action.Answer.TheVariants.{Word as WordIs, Done, Fault, Kern}
@@ -96,7 +96,7 @@ module _ (coffer : Coffer) (command : Command) (run after : PlanRun) (at : ℕ) 
       few : after.made ≤ length after.plan.prepares.items
       few = omega (arith, same.made, ap length same.prepares)
 
-      goes : Goes (StageKnows coffer command (stage.Storing after at)) Plain (Store pair.0 pair.1) words tree (Runs command true None) Done
+      goes : Goes (StageKnows coffer command (stage.Storing after at)) Plain (Store pair.0 pair.1) words tree (Runs command true true Given) Done
       goes = record {
         legal = tt;
         denotes = subst (λ w. Denotes w tree) (sym stored) (subst (Denotes (stored_all (take after.made after.plan.prepares.items) k.base)) (sym k.links.ground.tree_is)
@@ -151,7 +151,7 @@ module _ (coffer : Coffer) (command : Command) (run after : PlanRun) (at : ℕ) 
       ground : Ground coffer (store_at head_at entry words) (tree_after tree command)
       ground = subst (λ w. Ground coffer (store_at head_at entry w) (tree_after tree command)) (sym whole) (spot_commits coffer command k.head k.spot k.pages k.base tree k.links valid k.spot_is k.drawn)
 
-      goes : Goes (StageKnows coffer command (stage.Storing after at)) Commit (Store head_at entry) words tree (Runs command true None) Done
+      goes : Goes (StageKnows coffer command (stage.Storing after at)) Commit (Store head_at entry) words tree (Runs command true true Given) Done
       goes = record {
         legal = changes;
         denotes = ground_denotes coffer _ _ ground;

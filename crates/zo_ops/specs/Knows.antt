@@ -1,12 +1,12 @@
 -- What a call knows between two of its actions, stage by stage, and what it gives with each.
-use Rattle.std.specs.Prelude.{◌≡◌, ◌≢◌, ◌⊎◌, ℕ, ◌+◌, ◌<◌, ◌≤◌, List, [], ◌∷◌, length, take, codes, Contains, Some, None, Bool, true, false}
+use Rattle.std.specs.Prelude.{◌≡◌, ◌≢◌, ◌⊎◌, ℕ, ◌+◌, ◌<◌, ◌≤◌, List, [], ◌∷◌, length, take, codes, Contains, Bool, true, false}
 use Rattle.pm_words.specs.Word.{Word}
 use Rattle.zo_layout.specs.Layout.{page_at, bucket_head, bucket_of, entry_place, first_free_entry, file_map}
 use Rattle.tr_types.specs.Machine.{acted}
 use Rattle.tr_types.specs.Marks.{mark_of, name_in_root}
 use Rattle.tr_types.specs.Tree.{Member}
 use Rattle.tr_types.specs.Denotes.{value, control_of, dir_of, Denotes}
-use Rattle.tr_types.specs.World.{Phase, Runs, Committed, phase_after, changed, pool_of, IsLegalAct, MayReply}
+use Rattle.tr_types.specs.World.{Phase, Runs, NotYet, Given, Refused, Committed, phase_after, changed, pool_of, IsLegalAct, MayReply}
 use Rattle.tr_types.specs.declared.action.Action.{Action}
 use Rattle.tr_types.specs.declared.action.Answer.{Answer}
 use Rattle.tr_types.specs.declared.action.Answer.TheVariants.{Word as WordIs, Done, Kern}
@@ -29,6 +29,8 @@ use Rattle.zo_ops.specs.declared.call.Stage.{Stage}
 use Rattle.zo_ops.specs.declared.call.Stage.TheVariants as stage
 use Rattle.zo_ops.specs.declared.call.Telling.{Telling}
 use Rattle.zo_ops.specs.declared.call.Telling.TheVariants as telling
+use Rattle.zo_ops.specs.declared.count.Asked.TheVariants.{Nothing as CountNothing}
+use Rattle.zo_ops.specs.declared.lookup.Asked.TheVariants.{Nothing as LookNothing}
 use Rattle.zo_ops.specs.declared.plan.PlanRun.{PlanRun}
 use Rattle.zo_ops.specs.declared.plan.Spot.{Spot}
 use Rattle.zo_ops.specs.declared.plan.Spot.TheVariants.{Free, Fresh}
@@ -69,9 +71,13 @@ pub record Ground (coffer : Coffer) (words : List Word) (tree : List Member) : T
 abbrev pub IsMissing : List FileAt → List ℕ → Type 0
 IsMissing files name = (f : FileAt) → Contains files f → f.name ≢ name
 
--- the call runs, has been refused nothing, and has or hasn't seen its pool empty
+-- the call runs, has loaded a word and asked for no pages, and has or hasn't seen its pool empty
 abbrev pub IsRunning : Command → Phase → Type 0
-IsRunning command phase = (drained : Bool) × (phase ≡ Runs command drained None)
+IsRunning command phase = (drained : Bool) × (phase ≡ Runs command true drained NotYet)
+
+-- the same of a call that may not have loaded yet; where `Asks`, it has
+abbrev pub IsRunningFrom : Type 0 → Command → Phase → Type 0
+IsRunningFrom Asks command phase = (loaded drained : Bool) × (phase ≡ Runs command loaded drained NotYet) × (Asks → loaded ≡ true)
 
 -- where the new entry is to stand, of the free entries that there are
 abbrev pub IsSpot : List Word → List ℕ → Spot → Type 0
@@ -107,7 +113,7 @@ PlacingKnows coffer command (NextFree head entry) answer words tree phase =
 PlacingKnows coffer command (FirstPage head) answer words tree phase =
     (k : Links coffer command head words tree) × (k.ground.frees ≡ []) × IsRunning command phase × ((first : ℕ) × (answer ≡ WordIs first))
 PlacingKnows coffer command (Pool head spot) answer words tree phase =
-    (k : Links coffer command head words tree) × IsSpot words k.ground.frees spot × (phase ≡ Runs command true None) × (answer ≡ WordIs 0)
+    (k : Links coffer command head words tree) × IsSpot words k.ground.frees spot × (phase ≡ Runs command true true NotYet) × (answer ≡ WordIs 0)
 
 -- the pages that a spot takes, each the coffer's now and still blank
 abbrev pub AreDrawn : List Word → (ℕ → Role) → Spot → List ℕ → Type 0
@@ -121,9 +127,9 @@ spot_pages (Fresh first) = 2
 -- what is known with the kernel's answer
 abbrev pub DrawnKnows : Coffer → Command → ℕ → Spot → KernAnswer → List Word → List Member → Phase → Type 0
 DrawnKnows coffer command head spot (Pages pages) words tree phase =
-    (k : Links coffer command head words tree) × IsSpot words k.ground.frees spot × AreDrawn words k.ground.roles spot pages × (phase ≡ Runs command true None)
+    (k : Links coffer command head words tree) × IsSpot words k.ground.frees spot × AreDrawn words k.ground.roles spot pages × (phase ≡ Runs command true true Given)
 DrawnKnows coffer command head spot (NoPages asked free) words tree phase =
-    Links coffer command head words tree × (asked ≡ spot_pages spot) × (phase ≡ Runs command true (Some (record { asked = asked; free = free })))
+    Links coffer command head words tree × (asked ≡ spot_pages spot) × (phase ≡ Runs command true true (Refused (record { asked = asked; free = free })))
 DrawnKnows coffer command head spot answer words tree phase = ⊥
 
 abbrev pub DrawingKnows : Coffer → Command → ℕ → Spot → Answer → List Word → List Member → Phase → Type 0
@@ -154,7 +160,7 @@ pub record Prepares (coffer : Coffer) (command : Command) (run : PlanRun) (words
   pub commit : run.plan.commit ≡ commit_pair (dir_of base) (name_of command) (spot_entry spot pages)
   pub made : run.made ≤ length run.plan.prepares.items
   pub words_are : words ≡ stored_all (take run.made run.plan.prepares.items) base
-  pub phase_is : phase ≡ Runs command true None
+  pub phase_is : phase ≡ Runs command true true Given
 
 -- a plan that is done
 pub record Stored (coffer : Coffer) (run : PlanRun) (words : List Word) (tree : List Member) (phase : Phase) : Type 0 where
@@ -167,11 +173,11 @@ RunKnows coffer command run words tree phase = Prepares coffer command run words
 
 -- what a call knows that is at this stage, with the answer that it gets next
 abbrev pub StageKnows : Coffer → Command → Stage → Answer → List Word → List Member → Phase → Type 0
-StageKnows coffer command stage.Begin answer words tree phase = Ground coffer words tree × (phase ≡ Runs command false None)
+StageKnows coffer command stage.Begin answer words tree phase = Ground coffer words tree × (phase ≡ Runs command false false NotYet)
 StageKnows coffer command (stage.Looking look) answer words tree phase =
-    (k : Ground coffer words tree) × LookKnows look (name_of command) answer words k.files × (look.dir ≡ coffer.dir) × (0 < length (name_of command)) × IsRunning command phase
+    (k : Ground coffer words tree) × LookKnows look (name_of command) answer words k.files × (look.dir ≡ coffer.dir) × (0 < length (name_of command)) × IsRunningFrom (look.asked ≢ LookNothing) command phase
 StageKnows coffer command (stage.Counting count) answer words tree phase =
-    (k : Ground coffer words tree) × CountKnows count answer words k.files × (count.dir ≡ coffer.dir) × (path_of command ≡ codes "/") × IsStat command × IsRunning command phase
+    (k : Ground coffer words tree) × CountKnows count answer words k.files × (count.dir ≡ coffer.dir) × (path_of command ≡ codes "/") × IsStat command × IsRunningFrom (count.asked ≢ CountNothing) command phase
 StageKnows coffer command (stage.Telling telling) answer words tree phase =
     TellingKnows coffer command telling answer words tree × IsStat command × (0 < length (name_of command)) × IsRunning command phase
 StageKnows coffer command (stage.Placing placing) answer words tree phase = PlacingKnows coffer command placing answer words tree phase
@@ -213,7 +219,7 @@ AfterKnowing coffer command Known n = IsCommand command → (words : List Word) 
 -- What is known at the begin of a call; where a file was found, or none; where the first free entry is known, where a
 -- spot is chosen, where the pool has shown no page, and where pages are drawn.
 abbrev pub BeginKnows : Coffer → Command → List Word → List Member → Phase → Type 0
-BeginKnows coffer command words tree phase = Ground coffer words tree × (phase ≡ Runs command false None)
+BeginKnows coffer command words tree phase = Ground coffer words tree × (phase ≡ Runs command false false NotYet)
 
 abbrev pub FindKnows : Coffer → Command → ℕ → List Word → List Member → Phase → Type 0
 FindKnows coffer command target words tree phase = Finds coffer command target words tree × (0 < length (name_of command)) × IsRunning command phase
@@ -232,11 +238,11 @@ AskKnows coffer command head spot words tree phase =
 
 abbrev pub PoolKnows : Coffer → Command → ℕ → Spot → List Word → List Member → Phase → Type 0
 PoolKnows coffer command head spot words tree phase =
-    (k : Links coffer command head words tree) × IsSpot words k.ground.frees spot × (phase ≡ Runs command true None)
+    (k : Links coffer command head words tree) × IsSpot words k.ground.frees spot × (phase ≡ Runs command true true NotYet)
 
 abbrev pub FillKnows : Coffer → Command → ℕ → Spot → List ℕ → List Word → List Member → Phase → Type 0
 FillKnows coffer command head spot pages words tree phase =
-    (k : Links coffer command head words tree) × IsSpot words k.ground.frees spot × AreDrawn words k.ground.roles spot pages × (phase ≡ Runs command true None)
+    (k : Links coffer command head words tree) × IsSpot words k.ground.frees spot × AreDrawn words k.ground.roles spot pages × (phase ≡ Runs command true true Given)
 
 -- a step that a call gives where it knew what its stage asked for with the answer
 abbrev pub StepsFrom : CallRun → Answer → CallRun → CallStep → Type 0

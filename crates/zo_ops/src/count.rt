@@ -1,6 +1,7 @@
 // Counting the names of a directory, one load at a time.
 ghost use Rattle.std.specs.Prelude.{◌≡◌, ℕ, ◌+◌, ◌^◌, ◌<◌, List, length};
 ghost use Rattle.pm_words.specs.Word.{Word};
+ghost use Rattle.zo_layout.specs.Layout.{bucket_head as bucket_head_at};
 ghost use Rattle.tr_types.specs.Denotes.{dir_of};
 ghost use Rattle.tr_types.specs.declared.action.Answer.{Answer};
 ghost use Rattle.zo_ops.specs.Laid.{Role, FileAt, IsBuilt};
@@ -41,6 +42,7 @@ pub(crate) enum CountStep {
 impl Count {
     pub fn begin(dir: Addr) -> Count
         ensures dir { result.dir ≡ dir }
+        ensures asked { result.asked ≡ Asked.Nothing }
         ensures begins { (first : Answer) (words : List Word) (files : List FileAt) → CountKnows result first words files }
     {
         Count {
@@ -54,6 +56,7 @@ impl Count {
     /// Goes on with the answer to the last load. The first call has no use for its answer.
     pub fn next(&mut self, answer: &Answer) -> CountStep
         ensures dir { self.new.dir ≡ self.old.dir }
+        ensures first { self.old.asked ≡ Asked.Nothing → result ≡ CountStep.Load (bucket_head_at self.old.dir.at self.old.bucket) }
         ensures gives { (words : List Word) (roles : ℕ → Role) (files : List FileAt) → IsBuilt words roles files
             → length files < 2 ^ 63 → self.old.dir.at ≡ dir_of words
             → CountKnows self.old answer.now words files → CountGives self.new words files result }

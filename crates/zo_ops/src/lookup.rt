@@ -1,7 +1,7 @@
 // Finding a name in a directory, one load at a time.
 ghost use Rattle.std.specs.Prelude.{◌≡◌, ℕ, ◌*◌, ◌<◌, ◌≤◌, ◌≢◌, List, length, Contains};
 ghost use Rattle.pm_words.specs.Word.{Word};
-ghost use Rattle.zo_layout.specs.Layout.{name_length as name_length_at, name_word as name_word_at};
+ghost use Rattle.zo_layout.specs.Layout.{bucket_head as bucket_head_at, bucket_of as bucket_of_name, name_length as name_length_at, name_word as name_word_at};
 ghost use Rattle.tr_types.specs.Denotes.{value, dir_of};
 ghost use Rattle.tr_types.specs.declared.action.Answer.{Answer};
 ghost use Rattle.zo_ops.specs.Laid.{Role, FileAt, IsBuilt};
@@ -49,6 +49,7 @@ pub(crate) enum LookStep {
 impl Lookup {
     pub fn begin(dir: Addr) -> Lookup
         ensures dir { result.dir ≡ dir }
+        ensures asked { result.asked ≡ Asked.Nothing }
         ensures begins { (name : List ℕ) (first : Answer) (words : List Word) (files : List FileAt) → LookKnows result name first words files }
     {
         Lookup {
@@ -60,6 +61,7 @@ impl Lookup {
     /// Goes on with the answer to the last load. The first call has no use for its answer.
     pub fn next(&mut self, name: &[u8], answer: &Answer) -> LookStep
         ensures dir { self.new.dir ≡ self.old.dir }
+        ensures first { self.old.asked ≡ Asked.Nothing → result ≡ LookStep.Load (bucket_head_at self.old.dir.at (bucket_of_name name.now)) }
         ensures gives { (words : List Word) (roles : ℕ → Role) (files : List FileAt) → IsBuilt words roles files
             → self.old.dir.at ≡ dir_of words → 0 < length name.now → length name.now ≤ 255
             → LookKnows self.old name.now answer.now words files → LookGives self.new name.now words files result }

@@ -1,9 +1,13 @@
 // What the actions of a call are for.
-ghost use Rattle.std.specs.Prelude.{◌≡◌, ◌<◌, ◌^◌, drop};
-ghost use Rattle.tr_types.specs.Marks.{mark_of, is_commit_word, name_in_root};
+ghost use Rattle.std.specs.Prelude.{◌≡◌, ◌<◌, ◌≤◌, ◌^◌, drop};
+ghost use Rattle.tr_types.specs.Marks.{mark_of, pkru_mark, is_commit_word, name_in_root};
+ghost use Rattle.tr_types.specs.Rights.{may_read};
 
 use tr_types::{Action, Command, Mark};
 use zo_layout::{bucket_head, bucket_of};
+
+/// The register PKRU with which a thread starts: no key but 0 is enabled.
+const CLOSED_PKRU: u32 = 0x5555_5554;
 
 /// The name that a path of one name has in the root directory.
 pub(crate) fn name_in_root(path: &[u8]) -> &[u8]
@@ -38,6 +42,30 @@ pub(crate) fn mark_of(dir: u64, command: &Command, action: &Action) -> Mark
                 Mark::Plain
             }
         }
+        Action::Pkru(pkru) => pkru_mark(*pkru),
         _ => Mark::Plain,
     }
+}
+
+/// The mark of a register PKRU that a thread takes: `Open` where a key other than 0 is enabled.
+fn pkru_mark(pkru: u32) -> Mark
+    ensures { result ≡ pkru_mark pkru }
+{
+    if pkru == CLOSED_PKRU {
+        return Mark::Close;
+    }
+    for key in 1u8..16 {
+        if may_read(pkru, key) {
+            return Mark::Open;
+        }
+    }
+    Mark::Plain
+}
+
+/// Whether the register allows loads under this key of 0 to 15.
+fn may_read(pkru: u32, key: u8) -> bool
+    requires { key ≤ 15 }
+    ensures { result ≡ may_read pkru key }
+{
+    (pkru >> (2 * key)) % 2 != 1
 }
