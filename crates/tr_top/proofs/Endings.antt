@@ -10,7 +10,8 @@ use Rattle.pm_words.specs.Memory.{present_values}
 use Rattle.tr_types.specs.declared.entry.Entry.{Entry}
 use Rattle.tr_outside.specs.ImageBytes.{image_bytes}
 use Rattle.tr_outside.specs.Whole.{AppendsFront}
-use Rattle.zo_ops.specs.declared.call.Coffer.{Coffer}
+use Rattle.bus_machine.specs.View.{MachineView}
+use Rattle.tr_types.specs.Machine.{Bus}
 use Rattle.tr_top.specs.declared.log.Stop.{Stop}
 use Rattle.tr_top.specs.declared.log.Stop.TheVariants as stop
 use Rattle.tr_script.specs.declared.script.Line.{Line}
@@ -35,29 +36,29 @@ keeps_same None now e = tt
 keeps_same (Some xs) now e = subst (Keeps (Some xs)) (sym e) refl
 
 -- the script was run to its end, and saving has ended so
-pub ends_saved : (status : Status) (lines : List Line) (coffer : Coffer) (words : List Word) (old trace : List Entry) (out out' saved saved' : Option (List ℕ)) (f f' s s' : ℕ) → old ≡ [] → IsTied lines coffer words trace → IsAtEnd (place_after lines trace) → Goes {T = Unit {0}} lines old trace out out' f f' (Ok tt) → IsSaved status saved saved' s s' (image_bytes (present_values words)) → RunEnds (sinks_of out f saved s) (sinks_of out' f' saved' s') lines status trace
-ends_saved Done lines coffer words old trace out out' saved saved' f f' s s' none tied ended goes is = record {
+pub ends_saved : (status : Status) (lines : List Line) (m : MachineView) (old trace : List Entry) (out out' saved saved' : Option (List ℕ)) (f f' s s' : ℕ) → old ≡ [] → IsTied lines m trace → IsAtEnd (place_after lines trace) → Goes {T = Unit {0}} lines old trace out out' f f' (Ok tt) → IsSaved status saved saved' s s' (image_bytes (present_values m.bus.words)) → RunEnds (sinks_of out f saved s) (sinks_of out' f' saved' s') lines status trace
+ends_saved Done lines m old trace out out' saved saved' f f' s s' none tied ended goes is = record {
   run = tied.run;
   ended = ended;
   out = goes.told out (subst (λ t. Appends out out (brief_texts t)) (sym none) (appends_nothing out));
-  saved = subst (λ w. Appends saved saved' (image_bytes (present_values w))) tied.memory is;
+  saved = subst (λ (b : Bus). Appends saved saved' (image_bytes (present_values b.words))) tied.bus is;
 }
-ends_saved NoMemory lines coffer words old trace out out' saved saved' f f' s s' none tied ended goes is = record {
+ends_saved NoMemory lines m old trace out out' saved saved' f f' s s' none tied ended goes is = record {
   run = tied.run;
   out = (brief_texts trace, [], sym (append-nil (brief_texts trace)), goes.told out (subst (λ t. Appends out out (brief_texts t)) (sym none) (appends_nothing out)));
   saved = is;
 }
-ends_saved WriteFault lines coffer words old trace out out' saved saved' f f' s s' none tied ended goes is = inr (record {
+ends_saved WriteFault lines m old trace out out' saved saved' f f' s s' none tied ended goes is = inr (record {
   run = tied.run;
   ended = ended;
   cause = is.1;
   out = goes.told out (subst (λ t. Appends out out (brief_texts t)) (sym none) (appends_nothing out));
-  saved = subst (λ w. AppendsFront saved saved' (image_bytes (present_values w))) tied.memory is.0;
+  saved = subst (λ (b : Bus). AppendsFront saved saved' (image_bytes (present_values b.words))) tied.bus is.0;
 })
-ends_saved Full lines coffer words old trace out out' saved saved' f f' s s' none tied ended goes is = absurd is
-ends_saved Usage lines coffer words old trace out out' saved saved' f f' s s' none tied ended goes is = absurd is
-ends_saved (BadScript line column) lines coffer words old trace out out' saved saved' f f' s s' none tied ended goes is = absurd is
-ends_saved ReadFault lines coffer words old trace out out' saved saved' f f' s s' none tied ended goes is = absurd is
+ends_saved Full lines m old trace out out' saved saved' f f' s s' none tied ended goes is = absurd is
+ends_saved Usage lines m old trace out out' saved saved' f f' s s' none tied ended goes is = absurd is
+ends_saved (BadScript line column) lines m old trace out out' saved saved' f f' s s' none tied ended goes is = absurd is
+ends_saved ReadFault lines m old trace out out' saved saved' f f' s s' none tied ended goes is = absurd is
 
 -- the run stopped before its end
 pub ends_stopped : (why : Stop) (lines : List Line) (old trace : List Entry) (out out' saved : Option (List ℕ)) (f f' s : ℕ) → old ≡ [] → Goes {T = Unit {0}} lines old trace out out' f f' (Err why) → RunEnds (sinks_of out f saved s) (sinks_of out' f' saved s) lines (stop_status why) trace

@@ -2,6 +2,8 @@
 mod NewImageLemmas
 -- how a script's place passes lines
 mod PlaceLemmas
+-- how calls stand while entries come
+mod StandLemmas
 -- a run with one more entry
 mod RunLemmas
 -- how a run ends

@@ -71,16 +71,16 @@ is_nobodys thread r none = ap (is_running thread) none
 
 -- Lines that make turns.
 pub finish_here : (thread : ℕ) (lines : List Line) (r : Option Running) (d : ℕ) → is_running thread r ≡ true → before (Finish thread ∷ lines) r d ≡ place_at lines ToTheEnd r d
-finish_here thread lines r d yes = ap (λ (b : Bool). cond b (place_at lines ToTheEnd r d) (before lines r d)) yes
+finish_here thread lines r d its = ap (λ (b : Bool). cond b (place_at lines ToTheEnd r d) (before lines r d)) its
 
 pub finish_past : (thread : ℕ) (lines : List Line) (r : Option Running) (d : ℕ) → is_running thread r ≡ false → before (Finish thread ∷ lines) r d ≡ before lines r d
-finish_past thread lines r d no = ap (λ (b : Bool). cond b (place_at lines ToTheEnd r d) (before lines r d)) no
+finish_past thread lines r d past = ap (λ (b : Bool). cond b (place_at lines ToTheEnd r d) (before lines r d)) past
 
 pub open_here : (thread : ℕ) (lines : List Line) (r : Option Running) (d : ℕ) → is_running thread r ≡ true → before (Open thread ∷ lines) r d ≡ place_at lines ToAnOpening r d
-open_here thread lines r d yes = ap (λ (b : Bool). cond b (place_at lines ToAnOpening r d) (before lines r d)) yes
+open_here thread lines r d its = ap (λ (b : Bool). cond b (place_at lines ToAnOpening r d) (before lines r d)) its
 
 pub open_past : (thread : ℕ) (lines : List Line) (r : Option Running) (d : ℕ) → is_running thread r ≡ false → before (Open thread ∷ lines) r d ≡ before lines r d
-open_past thread lines r d no = ap (λ (b : Bool). cond b (place_at lines ToAnOpening r d) (before lines r d)) no
+open_past thread lines r d past = ap (λ (b : Bool). cond b (place_at lines ToAnOpening r d) (before lines r d)) past
 
 -- an action that opens no window leaves a place that waits for one
 pub action_kept : (m : Mark) (p : Place) → m ≢ mark.Open → after_action ToAnOpening m p ≡ p

@@ -94,7 +94,7 @@ impl Log {
 
     /// The trace.
     pub fn into_trace(self) -> Trace
-        ensures { result ≡ self.entry.trace }
+        ensures { result ≡ self.trace }
     {
         let Log { trace, text: _ } = self;
         trace

@@ -12,7 +12,7 @@ ghost use Rattle.tr_script.specs.declared.script.Line.{Line};
 ghost use Rattle.tr_script.specs.declared.script.Line.TheVariants as line;
 ghost use Rattle.tr_top.specs.Along.{MayFollow, IsAtEnd};
 ghost use Rattle.tr_top.specs.Run.{pages_made, world_after, place_after};
-ghost use Rattle.tr_top.specs.Running.{Goes, IsTied, IsSound, Stands, StandsTurned, TurnsTo, AreDue, WhoStays, IsNextLine, Passes, IsCallGiven, IsStart, IsBefore, IsOfThread};
+ghost use Rattle.tr_top.specs.Running.{Goes, IsTied, IsSound, Stands, StandsTurned, TurnsTo, AreDue, WhoStays, IsNextLine, Passes, IsCallGiven, IsBefore, IsOfThread};
 
 use crate::log::{Log, Stop};
 use crate::new_image::new_image;

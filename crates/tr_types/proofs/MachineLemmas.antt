@@ -7,7 +7,7 @@ use Rattle.pm_words.proofs.WordLemmas.{length_store_at, other_place}
 use Rattle.zo_layout.specs.Layout.{owner_word}
 use Rattle.tr_types.specs.KernelView.{pages_of}
 use Rattle.tr_types.specs.Denotes.{value}
-use Rattle.tr_types.specs.Machine.{Bus, acted, called, bus_after, pkru_of}
+use Rattle.tr_types.specs.Machine.{Bus, acted, called, bus_after, bus_moved, pkru_of}
 use Rattle.tr_types.specs.Rights.{closed_pkru}
 use Rattle.tr_types.specs.World.{World, MayCome}
 use Rattle.tr_types.specs.Windows.{IsConfined}
@@ -197,3 +197,25 @@ register_kept bus thread other (Load at) answer ne = refl
 register_kept bus thread other (Cas at old new) answer ne = refl
 register_kept bus thread other (Flush at) answer ne = refl
 register_kept bus thread other Fence answer ne = refl
+
+-- an entry keeps the number of pages
+pub pages_moved : (bus : Bus) (e : Entry) → pages_of (bus_moved bus e).words ≡ pages_of bus.words
+pages_moved bus (entry.Act thread now mark action answer) = pages_acted action answer bus.words
+pages_moved bus (entry.Stray thread addr word answer) = pages_acted (Store addr word) answer bus.words
+pages_moved bus (entry.Mkfs pages) = refl
+pages_moved bus (entry.Process process cred) = refl
+pages_moved bus (entry.Thread thread process) = refl
+pages_moved bus (entry.Tick n) = refl
+pages_moved bus (entry.Call thread command) = refl
+pages_moved bus (entry.Reply thread reply) = refl
+pages_moved bus (entry.Wild thread now action answer) = refl
+pages_moved bus (entry.Corrupt process) = refl
+pages_moved bus (entry.Kill process) = refl
+pages_moved bus (entry.Crash pick) = refl
+pages_moved bus (entry.CrashIn thread now call k pick) = refl
+pages_moved bus (entry.Recovery action) = refl
+pages_moved bus (entry.Recovered ready quarantined) = refl
+pages_moved bus (entry.Lost path) = refl
+pages_moved bus (entry.Skip line why) = refl
+pages_moved bus (entry.Quarantine path) = refl
+pages_moved bus (entry.Coffers list) = refl
