@@ -98,7 +98,7 @@ impl<'a> Session<'a> {
         stage: Stage<'a>,
         answer: &Answer,
     ) -> Result<Next<'a>, AllocError>
-        ensures gives { IfOk result (NextFrom self.now.thread self.now.command.now stage answer.now) }
+        ensures gives { IfOk result (NextFrom self.now.thread self.now.command.now stage.entry answer.now) }
     {
         match stage {
             Stage::Begin => self.find(alloc),
@@ -165,7 +165,7 @@ impl<'a> Session<'a> {
         mut call: CallRun<'a>,
         answer: &Answer,
     ) -> Result<Next<'a>, AllocError>
-        ensures gives { IfOk result (NextFrom self.now.thread self.now.command.now (stage.Working call) answer.now) }
+        ensures gives { IfOk result (NextFrom self.now.thread self.now.command.now (stage.Working call.entry) answer.now) }
     {
         match call.next(alloc, answer)? {
             CallStep::Act(mark, action) => Ok(Next::Act(mark, action, Stage::Working(call))),
@@ -179,13 +179,9 @@ impl<'a> Session<'a> {
 }
 
 fn kernel<'a>(alloc: Global, call: Kcall, stage: Stage<'a>) -> Result<Next<'a>, AllocError>
-    ensures { IfOk result (λ next. next ≡ Next.Act Mark.Plain (Action.Kernel call) stage) }
+    ensures { IfOk result (λ next. next ≡ Next.Act Mark.Plain (Action.Kernel call) stage.entry) }
 {
-    Ok(Next::Act(
-        Mark::Plain,
-        Action::Kernel(Boxed::new(alloc, call)?),
-        stage,
-    ))
+    Ok(Next::Act(Mark::Plain, Action::Kernel(Boxed::new(alloc, call)?), stage))
 }
 
 // An answer that doesn't fit.
