@@ -6,6 +6,7 @@ use Rattle.tr_types.specs.declared.kernel_call.Holder.{Holder}
 use Rattle.tr_types.specs.declared.action.FaultKind.{FaultKind}
 use Rattle.tr_types.specs.Rights.{key_in, is_writable, holds_beside, are_together, is_row_of, is_held, holds_itself, without_row, with_row, load_fault, store_fault, load_fault_by, store_fault_by, allows_writing}
 use Rattle.tr_types.specs.Machine.{holds_to_write}
+use Rattle.page_rights.specs.Tables.{rows_of}
 
 -- Where nobody holds a coffer, no process has a key for it.
 pub no_key : (threads : List (ℕ × ℕ)) (holders : List Holder) (thread id : ℕ) → is_held id holders ≡ false → key_in threads holders thread id ≡ None
@@ -117,3 +118,15 @@ held_with coffer row holders held = by (held_more coffer row (without_row row.th
     by : (is_held coffer (without_row row.thread row.id holders) ≡ true) ⊎ (nat_eq row.id coffer ≡ true) → (is_held coffer holders ≡ true) ⊎ (nat_eq row.id coffer ≡ true)
     by (inl before) = inl (held_before row.thread row.id coffer holders before)
     by (inr new) = inr new
+
+-- a coffer's own rows say who writes in it
+pub writes_rows : (thread id : ℕ) (holders : List Holder) → holds_to_write thread id (rows_of id holders) ≡ holds_to_write thread id holders
+writes_rows thread id [] = refl
+writes_rows thread id (h ∷ holders) = by (nat_eq h.id id) refl (writes_rows thread id holders)
+  where
+    by : (b : Bool) → nat_eq h.id id ≡ b → holds_to_write thread id (rows_of id holders) ≡ holds_to_write thread id holders
+        → holds_to_write thread id (cond b (h ∷ rows_of id holders) (rows_of id holders)) ≡ holds_to_write thread id (h ∷ holders)
+    by true is rest = ap (λ (b : Bool). (is_row_of thread id h && allows_writing h.right) || b) rest
+    by false is rest =
+        rest
+        ∙ sym (ap (λ (b : Bool). b || holds_to_write thread id holders) (and_left (is_row_of thread id h) (allows_writing h.right) (and_right (nat_eq h.thread thread) (nat_eq h.id id) is)))

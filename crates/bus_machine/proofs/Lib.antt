@@ -6,3 +6,9 @@ mod Started
 mod Owners
 -- what the tables are told, after each change
 mod Told
+-- numbers in a row
+mod Ranges
+-- what an access is answered
+mod Accesses
+-- what the machine answers
+mod Noted
