@@ -6,13 +6,14 @@ use Rattle.std.proofs.lemmas.Bool.{cases_eq, cases_lt, ne_eqb, eq-eqb, lt-ltb, l
 use Rattle.std.proofs.lemmas.List.FromFn.{length-range_with_len}
 use Rattle.pm_words.specs.Word.{Word}
 use Rattle.pm_words.specs.Memory.{store_at, all_durable, IsPages}
-use Rattle.zo_layout.specs.Layout.{page_at, kernel_pages, owner_table, owner_word, root_page}
+use Rattle.zo_layout.specs.Layout.{page_at, kernel_pages, owner_table, owner_word, root_control, root_page}
 use Rattle.tr_types.specs.NewImage.{new_image, owner_in_new}
 use Rattle.tr_types.specs.KernelView.{pages_of, owner_of, free_pages, given_to}
 use Rattle.tr_types.specs.FreePages.{IsFreeFrom}
-use Rattle.tr_types.specs.Machine.{pages_held}
+use Rattle.tr_types.specs.Machine.{pages_held, root_mapped, root_perm}
 use Rattle.tr_types.proofs.FreePages.{pages_are, owner_apart, owner_kept, owner_given, owner_new, size_stored, size_opened, free_list, filter_all}
 use Rattle.bus_machine.specs.Ties.{HasOwners}
+use Rattle.bus_machine.specs.Parts.{mapped_in}
 
 -- In a new image.
 
@@ -157,3 +158,10 @@ held_count words pages first owners =
     (λ page low high. ne_eqb (owner_of words page) 1 (λ one. let is = owners.kernels page (omega arith) in omega arith))
     (λ page low high. eq-eqb (owner_of words page) 1 (owners.coffers page (omega arith) (omega arith)))
     (λ page low high. ne_eqb (owner_of words page) 1 (λ one. let is = owners.free page (omega arith) (omega arith) in omega arith))
+
+-- the root coffer as it is mapped
+pub mapped_is : (words : List Word) (pages first key : ℕ) → HasOwners words pages first → mapped_in pages (first - kernel_pages pages) key ≡ root_mapped words key
+mapped_is words pages first key owners =
+    let all = sym (pages_are words pages owners.size.whole) in
+    let its = sym (held_count words pages first owners) in
+    λ i. record { id = 1; key = key; control = root_control (all i); root = root_page (all i); pages = its i; path_len = 1; perm = root_perm }
