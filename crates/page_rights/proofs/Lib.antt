@@ -4,3 +4,4 @@ mod RowLemmas
 mod ThreadLemmas
 mod TiedLemmas
 mod ChangeLemmas
+mod AnswerLemmas

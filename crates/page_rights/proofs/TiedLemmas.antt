@@ -12,7 +12,7 @@ use Rattle.page_rights.specs.Lookup.{process_at, is_in, holds_in, key_of, is_wri
 use Rattle.page_rights.proofs.RowLemmas.{key_found, mapping_by_thread}
 
 -- a held coffer is one of 1 to 256
-held_bound : (coffer : ℕ) (holders : List Holder) → All IsRow holders → is_held coffer holders ≡ true → coffer ≤ 256
+pub held_bound : (coffer : ℕ) (holders : List Holder) → All IsRow holders → is_held coffer holders ≡ true → coffer ≤ 256
 held_bound coffer [] rows held = absurd (both_ways false refl held)
 held_bound coffer (h ∷ holders) rows held = by (held_bound coffer holders (All-tail IsRow h holders rows)) (or_cases (eqb h.id coffer) (is_held coffer holders) held)
   where
