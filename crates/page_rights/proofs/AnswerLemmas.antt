@@ -1,15 +1,16 @@
 -- The last steps of the tables' own calls.
 use Rattle.std.proofs.Common.{◌≡◌, ◌≢◌, ℕ, ◌+◌, ◌*◌, ◌<◌, ◌≤◌, ◌↔◌, List, [], ◌∷◌, ◌++◌, Bool, true, false, not, ◌&&◌, ◌||◌, length, get_or, set, map, refl, ap, sym, subst, ◌∙◌, ◌⊎◌, inl, inr, cond, eqb, arith, All, Contains, Option, Some, None}
-use Rattle.std.specs.Prelude.{filter}
+use Rattle.std.specs.Prelude.{filter, OnOk, is_err, Result, Ok, Err}
 use Rattle.std.proofs.lemmas.Bool.{cases_eq, cases_lt, eq-eqb, eqb-true, or_cases, or_parts, or_left, or_right, and_parts, not_from_false, both_ways}
 use Rattle.std.proofs.lemmas.List.{same_lists, length-map, get_or-map, get_or_default}
 use Rattle.std.proofs.lemmas.List.Elements.{filter_agree}
 use Rattle.tr_types.specs.declared.kernel_call.Holder.{Holder}
-use Rattle.tr_types.specs.Rights.{process_of, is_same, is_row_of, is_held, holds_itself, without_row, IsLeastOf}
+use Rattle.tr_types.specs.Rights.{process_of, is_same, is_row_of, is_held, holds_itself, without_row, key_for, IsLeastOf}
 use Rattle.page_rights.specs.declared.mapping.Mapping.{Mapping}
 use Rattle.page_rights.specs.Tables.{View, without_process, without_pages_of, owners_unmapped, unmapped}
-use Rattle.page_rights.specs.Lookup.{process_at, without_process_in, place_of, AreTied}
+use Rattle.page_rights.specs.Lookup.{process_at, without_process_in, key_for_in, place_of, AreTied}
 use Rattle.page_rights.proofs.TiedLemmas.{held_bound}
+use Rattle.page_rights.proofs.RowLemmas.{key_for_by_thread}
 
 pub same_tied : (threads : List (ℕ × ℕ)) (processes : List (Option ℕ)) (holders holders_now : List Holder) (owners owners_now : List ℕ) (mappings mappings_now : List (Option Mapping))
     → holders_now ≡ holders → owners_now ≡ owners → mappings_now ≡ mappings → AreTied threads processes holders owners mappings → AreTied threads processes holders_now owners_now mappings_now
@@ -77,3 +78,16 @@ nothing_unmapped threads processes holders owners mappings tied v view thread co
     pages : (b : Bool) → is_held coffer holders ≡ b → owners_unmapped coffer holders owners ≡ owners
     pages true e = ap (λ (b : Bool). cond b owners (without_pages_of coffer owners)) e
     pages false e = ap (λ (b : Bool). cond b owners (without_pages_of coffer owners)) e ∙ same_pages coffer holders owners tied.held e
+
+-- the key, by the thread
+pub key_by_view : (threads : List (ℕ × ℕ)) (processes processes_read : List (Option ℕ)) (holders holders_read : List Holder) (owners : List ℕ) (mappings : List (Option Mapping)) (tied : AreTied threads processes holders owners mappings)
+    (v : View) (view : (record { threads = threads; holders = holders; owners = owners }) ≡ v) (thread process id : ℕ) (found : Option ℕ)
+    → process_at processes thread ≡ Some process → processes_read ≡ processes → holders_read ≡ holders → found ≡ key_for_in processes_read holders_read process id
+    → (key_for_in processes holders process id ≡ found) × (key_for v.threads v.holders thread id ≡ found)
+key_by_view threads processes processes_read holders holders_read owners mappings tied v view thread process id found is same_processes same_holders read =
+    let inner : key_for_in processes holders process id ≡ found = sym (read ∙ (λ i. key_for_in (same_processes i) (same_holders i) process id)) in
+    (inner, sym (key_for_by_thread threads processes tied.starts thread process is holders id ∙ ap (λ (w : View). key_for w.threads w.holders thread id) view) ∙ inner)
+
+pub on_ok : {T E : Type 0} (r : Result T E) (P : Type 0) → is_err r ≡ false → OnOk r P → P
+on_ok (Ok x) P e p = p
+on_ok (Err x) P e p = absurd (both_ways true e refl)

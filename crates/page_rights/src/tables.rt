@@ -6,13 +6,11 @@ ghost use Rattle.page_rights.specs.Lookup as lookup;
 ghost use Rattle.page_rights.specs.Tables as spec;
 
 use crate::mapping::{
-    self, Mapping, drop_pages_of, keep_held_pages, look_up, nothing, owner_of, place_of, put_pages,
-    unowned,
+    self, Mapping, drop_pages_of, drop_pages_unless_held, keep_held_pages, look_up, nothing,
+    owner_of, place_of, put_pages, unowned,
 };
 use crate::pkru::Pkru;
-use crate::rows::{
-    self, drop_row, holds_itself, is_held, key_for, least_against, process_of, put_row,
-};
+use crate::rows::{self, drop_row, holds_itself, key_for, least_against, process_of, put_row};
 use std::alloc::{AllocError, Global};
 use std::marker::Model;
 use thiserror::Error;
@@ -138,7 +136,9 @@ impl Tables {
             right,
             exclusive,
         };
-        put_row(&mut self.holders, row).map_err(|_| MapFault::NoMemory)?;
+        if put_row(&mut self.holders, row).is_err() {
+            return Err(MapFault::NoMemory);
+        }
         put_pages(&mut self.owners, id, pages);
         look_up(
             &mut self.mappings,
@@ -163,9 +163,7 @@ impl Tables {
         }
         let process = process_of(&self.processes, thread);
         drop_row(&mut self.holders, thread, id);
-        if !is_held(&self.holders, id) {
-            drop_pages_of(&mut self.owners, id);
-        }
+        drop_pages_unless_held(&mut self.owners, &self.holders, id);
         look_up(
             &mut self.mappings,
             &self.processes,
