@@ -1,5 +1,5 @@
-mod RegisterLemmas
-mod PageLemmas
+pub mod RegisterLemmas
+pub mod PageLemmas
 mod RowLemmas
 mod ThreadLemmas
 mod TiedLemmas

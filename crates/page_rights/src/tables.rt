@@ -120,6 +120,7 @@ impl Tables {
         ensures no_key { IsErrOf result MapFault.NoKey
             ↔ ((rights.those_against thread id exclusive self.old.holders ≡ []) × (rights.key_for self.old.threads self.old.holders thread id ≡ None)) }
         ensures err { OnErr result (self.new ≡ self.old) }
+        ensures threads_stay { self.new.threads ≡ self.old.threads }
         ensures pages_stay { length self.new.owners ≡ length self.old.owners }
     {
         if let Some(other) = least_against(&self.holders, thread, id, exclusive) {
@@ -156,6 +157,7 @@ impl Tables {
         requires started { IsSome (rights.process_of self.old.threads thread) }
         ensures held { result ≡ rights.holds_itself thread id self.old.holders }
         ensures after { self.new ≡ spec.unmapped thread id self.old }
+        ensures threads_stay { self.new.threads ≡ self.old.threads }
         ensures pages_stay { length self.new.owners ≡ length self.old.owners }
     {
         if !holds_itself(&self.holders, thread, id) {
@@ -211,6 +213,7 @@ impl Tables {
         requires pages { All (spec.MayStand id self.old.owners) pages.now }
         ensures ok { OnOk result (self.new ≡ spec.with_owners (spec.with_pages id pages.now self.old.owners) self.old) }
         ensures err { OnErr result (self.new ≡ self.old) }
+        ensures threads_stay { self.new.threads ≡ self.old.threads }
         ensures pages_stay { length self.new.owners ≡ length self.old.owners }
     {
         put_pages(&mut self.owners, id, pages);
@@ -221,6 +224,7 @@ impl Tables {
     pub fn take_pages(&mut self, pages: &[u32])
         requires pages { All (λ page. page < length self.old.owners) pages.now }
         ensures after { self.new ≡ spec.with_owners (spec.with_pages 0 pages.now self.old.owners) self.old }
+        ensures threads_stay { self.new.threads ≡ self.old.threads }
         ensures pages_stay { length self.new.owners ≡ length self.old.owners }
     {
         put_pages(&mut self.owners, 0, pages);
@@ -229,6 +233,7 @@ impl Tables {
     /// Ends all maps of a coffer. Takes no memory.
     pub fn drop_coffer(&mut self, id: u16)
         ensures after { self.new ≡ spec.coffer_dropped id self.old }
+        ensures threads_stay { self.new.threads ≡ self.old.threads }
         ensures pages_stay { length self.new.owners ≡ length self.old.owners }
     {
         rows::drop_coffer(&mut self.holders, id);
@@ -240,6 +245,7 @@ impl Tables {
     /// memory.
     pub fn drop_process(&mut self, process: u8)
         ensures after { self.new ≡ spec.process_dropped process self.old }
+        ensures threads_stay { self.new.threads ≡ self.old.threads }
         ensures pages_stay { length self.new.owners ≡ length self.old.owners }
     {
         rows::drop_process(&mut self.holders, &self.processes, process);
