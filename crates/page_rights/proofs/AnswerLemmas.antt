@@ -1,15 +1,14 @@
 -- The last steps of the tables' own calls.
-use Rattle.std.proofs.Common.{◌≡◌, ◌≢◌, ℕ, ◌+◌, ◌*◌, ◌<◌, ◌≤◌, ◌↔◌, List, [], ◌∷◌, ◌++◌, Bool, true, false, not, ◌&&◌, ◌||◌, length, get_or, set, map, refl, ap, sym, subst, ◌∙◌, ◌⊎◌, inl, inr, cond, eqb, arith, All, Contains, Option, Some, None}
-use Rattle.std.specs.Prelude.{filter, OnOk, is_err, Result, Ok, Err}
-use Rattle.std.proofs.lemmas.Bool.{cases_eq, cases_lt, eq-eqb, eqb-true, or_cases, or_parts, or_left, or_right, and_parts, not_from_false, both_ways}
+use Rattle.std.proofs.Common.{◌≡◌, ◌≢◌, ℕ, ◌<◌, ◌≤◌, List, [], ◌∷◌, Bool, true, false, not, length, get_or, refl, ap, sym, subst, ◌∙◌, ◌⊎◌, inl, inr, cond, eqb, arith, Option, Some}
+use Rattle.std.specs.Prelude.{OnOk, is_err, Result, Ok, Err}
+use Rattle.std.proofs.lemmas.Bool.{cases_eq, eqb-true, or_cases, or_parts, or_left, or_right, and_parts, both_ways}
 use Rattle.std.proofs.lemmas.List.{same_lists, length-map, get_or-map, get_or_default}
 use Rattle.std.proofs.lemmas.List.Elements.{filter_agree}
 use Rattle.tr_types.specs.declared.kernel_call.Holder.{Holder}
 use Rattle.tr_types.specs.Rights.{process_of, is_same, is_row_of, is_held, holds_itself, without_row, key_for, IsLeastOf}
 use Rattle.page_rights.specs.declared.mapping.Mapping.{Mapping}
 use Rattle.page_rights.specs.Tables.{View, without_process, without_pages_of, owners_unmapped, unmapped}
-use Rattle.page_rights.specs.Lookup.{process_at, without_process_in, key_for_in, place_of, AreTied}
-use Rattle.page_rights.proofs.TiedLemmas.{held_bound}
+use Rattle.page_rights.specs.Lookup.{process_at, without_process_in, key_for_in, AreTied}
 use Rattle.page_rights.proofs.RowLemmas.{key_for_by_thread}
 
 pub same_tied : (threads : List (ℕ × ℕ)) (processes : List (Option ℕ)) (holders holders_now : List Holder) (owners owners_now : List ℕ) (mappings mappings_now : List (Option Mapping))

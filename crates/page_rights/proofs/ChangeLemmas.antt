@@ -1,14 +1,14 @@
 -- Each change leaves the parts of the tables tied together.
-use Rattle.std.proofs.Common.{◌≡◌, ◌≢◌, ℕ, suc, ◌+◌, ◌*◌, ◌/◌, ◌%◌, ◌<◌, ◌≤◌, ◌↔◌, List, [], ◌∷◌, ◌++◌, Bool, true, false, not, ◌&&◌, ◌||◌, length, get_or, set, map, refl, ap, sym, subst, ◌∙◌, ◌⊎◌, inl, inr, cond, eqb, arith, All, Contains, Option, Some, None, get_or-set_same, get_or-set_other}
+use Rattle.std.proofs.Common.{◌≡◌, ◌≢◌, ℕ, ◌+◌, ◌/◌, ◌%◌, ◌<◌, ◌≤◌, ◌↔◌, List, [], ◌∷◌, ◌++◌, Bool, true, false, not, length, get_or, set, refl, ap, sym, subst, ◌∙◌, ◌⊎◌, inl, inr, cond, eqb, arith, All, Contains, Option, Some, None, get_or-set_same, get_or-set_other}
 use Rattle.std.specs.Prelude.{filter}
-use Rattle.std.proofs.lemmas.Bool.{cases_eq, cases_lt, cases_Bool, eq-eqb, eqb-true, eqb-false, ne_eqb, and_parts, and_from, and_left, and_right, not-true, not-false, not_from_false, false_from_ne_true, both_ways}
+use Rattle.std.proofs.lemmas.Bool.{cases_eq, cases_lt, eq-eqb, eqb-true, eqb-false, ne_eqb, and_parts, and_from, and_left, and_right, not-true, not-false, not_from_false, false_from_ne_true, both_ways}
 use Rattle.std.proofs.lemmas.List.{length-set, length-map, get_or_past, get_or-map}
 use Rattle.std.proofs.lemmas.List.Elements.{All-nil, All-filter, filter_passes, All-contains, All-contains_itself, All-push, All-weaker, Contains-push_cases}
 use Rattle.tr_types.specs.declared.kernel_call.Holder.{Holder}
 use Rattle.tr_types.specs.Rights.{process_of, is_same, is_row_of, is_held, without_row, with_row, first_of, or_key}
 use Rattle.page_rights.specs.declared.mapping.Mapping.{Mapping}
 use Rattle.page_rights.specs.Tables.{IsRow, with_pages, without_pages_of, with_held_pages, owners_unmapped, without_coffer}
-use Rattle.page_rights.specs.Lookup.{process_at, is_in, holds_in, uses_key_in, is_free_in, free_in, key_of, key_for_in, without_process_in, mapping_by, mapping_of, mapping_at, place_of, AreTied}
+use Rattle.page_rights.specs.Lookup.{process_at, is_in, holds_in, uses_key_in, is_free_in, free_in, key_of, key_for_in, without_process_in, mapping_of, mapping_at, place_of, AreTied}
 use Rattle.page_rights.proofs.PageLemmas.{pages_either}
 use Rattle.page_rights.proofs.RowLemmas.{mapping_of_filter, mapping_of_push, mapping_of_none, mapping_of_threads, key_found, no_key, free_key, first_found, held_filter, held_push, held_last}
 

@@ -1,5 +1,5 @@
 -- What the values of the register that are used allow.
-use Rattle.std.specs.Prelude.{ℕ, ◌≡◌, ◌≤◌, Bool, true, false, ◌==◌, ◌&&◌}
+use Rattle.std.specs.Prelude.{ℕ, ◌≡◌, ◌≤◌, Bool, false, ◌==◌, ◌&&◌}
 use Rattle.tr_types.specs.Rights.{may_read, may_write, closed_pkru, only_pkru}
 
 -- one key of 1 to 15 alone, for loads, and for stores as asked

@@ -114,6 +114,7 @@ impl Tables {
         requires same { IsTrue (rights.is_held id self.old.holders) → spec.AreItsPages id pages.now self.old.owners }
         ensures ok { IfOk result (λ key.
             self.new ≡ spec.mapped (record { thread = thread; id = id; key = key; right = right; exclusive = exclusive }) pages.now self.old) }
+        ensures held { OnOk result (IsTrue (rights.is_held id self.new.holders)) }
         ensures free { OnOk result (rights.those_against thread id exclusive self.old.holders ≡ []) }
         ensures key { IfOk result (λ key. rights.key_for self.old.threads self.old.holders thread id ≡ Some key) }
         ensures in_use { (other : ℕ) → IsErrOf result (MapFault.InUse other) ↔ rights.IsLeastOf (rights.those_against thread id exclusive self.old.holders) other }

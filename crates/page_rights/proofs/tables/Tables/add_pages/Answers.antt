@@ -1,4 +1,4 @@
-use Rattle.std.proofs.Common.{◌≡◌, ℕ, List, ap, ◌∙◌, refl}
+use Rattle.std.proofs.Common.{ℕ, List, ap, ◌∙◌, refl}
 use Rattle.std.proofs.lemmas.List.{with_items_is}
 use Rattle.tr_types.specs.Rights.{is_held}
 use Rattle.page_rights.specs.Tables.{View, with_pages}

@@ -1,4 +1,4 @@
-use Rattle.std.proofs.Common.{◌≡◌, ℕ, List, Option, None, ap, ◌∙◌, refl, get_or, length}
+use Rattle.std.proofs.Common.{ℕ, List, Option, None, ap, ◌∙◌, get_or, length}
 use Rattle.std.proofs.lemmas.List.{with_items_is}
 use Rattle.page_rights.specs.declared.mapping.Mapping.{Mapping}
 use Rattle.page_rights.specs.Tables.{without_pages_of}

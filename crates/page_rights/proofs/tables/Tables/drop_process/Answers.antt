@@ -1,6 +1,5 @@
-use Rattle.std.proofs.Common.{◌≡◌, ℕ, List, Option, None, ap, ◌∙◌, refl, get_or, length}
+use Rattle.std.proofs.Common.{ℕ, List, Option, None, ap, ◌∙◌, get_or, length}
 use Rattle.std.proofs.lemmas.List.{with_items_is}
-use Rattle.tr_types.specs.declared.kernel_call.Holder.{Holder}
 use Rattle.page_rights.specs.declared.mapping.Mapping.{Mapping}
 use Rattle.page_rights.specs.Tables.{View, with_held_pages, process_dropped}
 use Rattle.page_rights.specs.Lookup.{without_process_in}

@@ -1,11 +1,11 @@
-use Rattle.std.proofs.Common.{◌≡◌, ◌<◌, ◌≤◌, ◌+◌, ◌*◌, ℕ, List, [], Option, Some, None, Err, Bool, sym, ap, subst, ◌∙◌, refl, length, set, arith}
+use Rattle.std.proofs.Common.{◌≡◌, ℕ, List, Option, Some, Err, sym, ap, subst, ◌∙◌, refl, set}
 use Rattle.std.proofs.lemmas.List.{with_items_is}
 use Rattle.tr_types.specs.declared.kernel_call.Holder.{Holder}
-use Rattle.tr_types.specs.Rights.{those_against, IsLeastOf, with_row, key_for}
-use Rattle.page_rights.specs.declared.mapping.Mapping.{Mapping}
+use Rattle.tr_types.specs.Rights.{those_against, IsLeastOf, is_held, with_row, without_row, key_for}
 use Rattle.page_rights.specs.declared.tables.MapFault.TheVariants.{InUse}
 use Rattle.page_rights.specs.Tables.{View, with_pages}
 use Rattle.page_rights.specs.Lookup.{process_at, place_of, mapping_of, IsLeast}
+use Rattle.page_rights.proofs.RowLemmas.{held_last}
 use Rattle.page_rights.proofs.ChangeLemmas.{tied_mapped}
 use Rattle.page_rights.proofs.AnswerLemmas.{same_tied, least_is_one, key_by_view, on_ok}
 use Rattle.page_rights.proofs.tables.Tables.map.Goals as goal
@@ -58,3 +58,9 @@ returns-then-is_err-clause-no_key c =
     let keys = key_by_view _ _ _ _ _ _ _ c.self.invariant _ c.self.view_is c.args.thread _ c.args.id _ process c.deref-3.ensures.value c.deref-4.ensures.value c.key_for.ensures in
     let key : key_for c.args.self.now.threads c.args.self.now.holders c.args.thread c.args.id ≡ Some c.in-Some-key_for.key = keys.1 ∙ c.in-Some-key_for.is in
     (λ e. absurd (cc), λ e. let none = e.1 in absurd (cc))
+
+pub returns-clause-held : goal.returns-clause-held
+returns-clause-held c =
+    let row : Holder = record { thread = c.args.thread; id = c.args.id; key = c.in-Some-key_for.key; right = c.args.right; exclusive = c.args.exclusive } in
+    let rows : c.put_row.new.holders.items ≡ with_row row c.self.inside.holders.items = on_ok _ _ (sym c.is_err.ensures.value ∙ c.if-is_err.false) c.put_row.ensures.ok in
+    ap (λ (hs : List Holder). is_held c.args.id hs) rows ∙ held_last (without_row c.args.thread c.args.id c.self.inside.holders.items) row

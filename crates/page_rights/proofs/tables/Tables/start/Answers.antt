@@ -1,4 +1,4 @@
-use Rattle.std.proofs.Common.{◌≡◌, ℕ, List, Option, Some, None, sym, ap, ◌∙◌, subst, set}
+use Rattle.std.proofs.Common.{ℕ, List, Some, sym, ap, ◌∙◌, subst, set}
 use Rattle.tr_types.specs.Rights.{process_of}
 use Rattle.page_rights.specs.Tables.{View}
 use Rattle.page_rights.specs.Lookup.{AreTied}

@@ -1,4 +1,4 @@
-use Rattle.std.proofs.Common.{◌≡◌, ℕ, List, ap, ◌∙◌, refl}
+use Rattle.std.proofs.Common.{ℕ, List, ap, ◌∙◌, refl}
 use Rattle.std.proofs.lemmas.List.{with_items_is}
 use Rattle.page_rights.specs.Tables.{with_pages}
 use Rattle.page_rights.proofs.ChangeLemmas.{tied_put}
