@@ -1,6 +1,7 @@
 pub mod RegisterLemmas
 pub mod PageLemmas
 mod RowLemmas
+pub mod LawLemmas
 mod ThreadLemmas
 mod TiedLemmas
 mod ChangeLemmas

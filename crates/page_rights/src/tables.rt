@@ -180,6 +180,7 @@ impl Tables {
     /// Who holds a coffer, the last mapped last.
     pub fn holders(&self, alloc: Global, id: u16) -> Result<Vec<Holder>, AllocError>
         ensures rows { IfOk result (λ rows. rows.items ≡ spec.rows_of id self.now.holders) }
+        ensures sound { spec.IsSound self.now }
     {
         self.holders
             .iter()
