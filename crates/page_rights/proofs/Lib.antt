@@ -1,1 +1,8 @@
-mod RegisterLemmas
+pub mod RegisterLemmas
+pub mod PageLemmas
+mod RowLemmas
+pub mod LawLemmas
+mod ThreadLemmas
+mod TiedLemmas
+mod ChangeLemmas
+mod AnswerLemmas

@@ -1,7 +1,7 @@
 -- What the values of the register allow, by a look at each.
-use Rattle.std.proofs.Common.{◌≡◌, ℕ, ◌+◌, ◌*◌, ◌-◌, ◌<◌, ◌≤◌, ◌^◌, ◌&&◌, Bool, true, false, refl, ap, sym, subst, ◌∙◌, ◌⊎◌, inl, inr, arith, eqb}
+use Rattle.std.proofs.Common.{◌≡◌, ℕ, ◌+◌, ◌*◌, ◌-◌, ◌<◌, ◌≤◌, ◌^◌, ◌&&◌, Bool, true, false, refl, ap, subst, ◌⊎◌, inl, inr, arith, eqb}
 use Rattle.std.proofs.lemmas.Bool.{cases_lt, agree_below, agree_below_at}
-use Rattle.std.proofs.lemmas.Nat.Bits.{pow_below}
+use Rattle.std.proofs.lemmas.Nat.{pow_below}
 use Rattle.tr_types.specs.Rights.{may_read, may_write, closed_pkru, only_pkru}
 use Rattle.page_rights.specs.Laws.{OnlyOneKey, ClosedToAll}
 
@@ -46,9 +46,10 @@ only_one_key key other writable key_least key_most other_least other_most =
     let i_lt : key - 1 < 15 = omega arith in
     let j_lt : other - 1 < 15 = omega arith in
     let reads = subst (λ (k : ℕ). may_read (only_pkru k writable) (other - 1 + 1) ≡ eqb (other - 1 + 1) k) key_is (one_read writable (key - 1) (other - 1) i_lt j_lt) in
-    let writes = subst (λ (k : ℕ). may_write (only_pkru k writable) (other - 1 + 1) ≡ (eqb (other - 1 + 1) k && writable)) key_is (one_write writable (key - 1) (other - 1) i_lt j_lt) in
-    (subst (λ (o : ℕ). may_read (only_pkru key writable) o ≡ eqb o key) other_is reads,
-    subst (λ (o : ℕ). may_write (only_pkru key writable) o ≡ (eqb o key && writable)) other_is writes)
+    let writes = subst (λ (k : ℕ). may_write (only_pkru k writable) (other - 1 + 1) ≡ (eqb (other - 1 + 1) k && writable)) key_is (one_write writable (key - 1) (other - 1) i_lt j_lt) in (
+      subst (λ (o : ℕ). may_read (only_pkru key writable) o ≡ eqb o key) other_is reads,
+      subst (λ (o : ℕ). may_write (only_pkru key writable) o ≡ (eqb o key && writable)) other_is writes,
+    )
 
 pub closed_to_all : ClosedToAll
 closed_to_all key least most =

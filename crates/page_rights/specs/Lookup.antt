@@ -1,11 +1,11 @@
 -- How a process has a coffer mapped, found without a walk over the holders.
-use Rattle.std.specs.Prelude.{ℕ, ◌≡◌, ◌≢◌, ◌+◌, ◌*◌, ◌<◌, ◌≤◌, List, [], ◌∷◌, length, filter, slice_index, slice_index_or, Contains, Bool, true, false, not, Option, Some, None, if◌then◌else◌, ◌==◌, ◌&&◌, ◌||◌}
+use Rattle.std.specs.Prelude.{ℕ, ◌≡◌, ◌≢◌, ◌+◌, ◌*◌, ◌<◌, ◌≤◌, ◌↔◌, All, MatchOption, min, List, [], ◌∷◌, length, filter, slice_index, slice_index_or, Contains, Bool, true, false, not, Option, Some, None, if◌then◌else◌, ◌==◌, ◌&&◌, ◌||◌}
 use Rattle.std.specs.List.{range_with_len}
 use Rattle.tr_types.specs.declared.action.FaultKind.{FaultKind}
 use Rattle.tr_types.specs.declared.kernel_call.Holder.{Holder}
-use Rattle.tr_types.specs.Rights.{process_of, is_same, allows_writing, load_fault_by, store_fault_by, is_held, first_of, or_key}
+use Rattle.tr_types.specs.Rights.{process_of, is_same, allows_writing, load_fault_by, store_fault_by, is_held, first_of, or_key, key_in, is_writable, IsLeastOf}
 use Rattle.page_rights.specs.declared.mapping.Mapping.{Mapping}
-use Rattle.page_rights.specs.Tables.{IsRow, HaveOwnKeys}
+use Rattle.page_rights.specs.Tables.{IsRow}
 
 -- The same words as of threads, by the process itself; `processes` has the process of each thread by its number.
 
@@ -39,6 +39,9 @@ free_in processes holders process = filter (is_free_in processes holders process
 abbrev pub key_for_in : List (Option ℕ) → List Holder → ℕ → ℕ → Option ℕ
 key_for_in processes holders process id = or_key (key_of processes holders process id) (first_of (free_in processes holders process))
 
+abbrev pub without_process_in : List (Option ℕ) → ℕ → List Holder → List Holder
+without_process_in processes process holders = filter (λ h. not (is_in processes h.thread process)) holders
+
 -- What is kept of a process and a coffer.
 
 abbrev pub mapping_by : Option ℕ → Bool → Option Mapping
@@ -62,14 +65,26 @@ abbrev pub store_fault_of : Option Mapping → ℕ → Option FaultKind
 store_fault_of None pkru = store_fault_by None false pkru
 store_fault_of (Some m) pkru = store_fault_by (Some m.key) m.writable pkru
 
+abbrev pub mapping_for : List (ℕ × ℕ) → List Holder → ℕ → ℕ → Option Mapping
+mapping_for threads holders thread id = mapping_by (key_in threads holders thread id) (is_writable threads holders thread id)
+
+-- The least thread so far.
+
+abbrev pub lesser : Option ℕ → ℕ → ℕ
+lesser None thread = thread
+lesser (Some least) thread = min least thread
+
+abbrev pub IsLeast : List ℕ → Option ℕ → Type 0
+IsLeast threads least = MatchOption least (threads ≡ []) (IsLeastOf threads)
+
 -- What ties the parts of the tables together.
 pub record AreTied (threads : List (ℕ × ℕ)) (processes : List (Option ℕ)) (holders : List Holder) (owners : List ℕ) (mappings : List (Option Mapping)) : Type 0 where
   pub numbers : length processes ≡ 256
   pub starts : (thread : ℕ) → process_at processes thread ≡ process_of threads thread
   pub small : (thread process : ℕ) → process_at processes thread ≡ Some process → process < 64
-  pub rows : (h : Holder) → Contains holders h → IsRow h
-  pub row_threads : (h : Holder) → Contains holders h → process_at processes h.thread ≢ None
-  pub keys : HaveOwnKeys threads holders
+  pub rows : All IsRow holders
+  pub row_threads : All (λ h. process_at processes h.thread ≢ None) holders
+  pub own : (process : ℕ) (h g : Holder) → Contains holders h → Contains holders g → is_in processes h.thread process ≡ true → is_in processes g.thread process ≡ true → (h.id ≡ g.id) ↔ (h.key ≡ g.key)
   pub held : (page : ℕ) → slice_index owners page ≢ 0 → is_held (slice_index owners page) holders ≡ true
   pub places : length mappings ≡ 16448
   pub kept : (process id : ℕ) → process < 64 → id ≤ 256 → mapping_at mappings process id ≡ mapping_of processes holders process id

@@ -1,7 +1,6 @@
 -- The tables as their callers see them, and what each change leaves of them.
-use Rattle.std.specs.Prelude.{ℕ, ◌≡◌, ◌≢◌, ◌<◌, ◌≤◌, ◌↔◌, ◌⊎◌, List, [], ◌∷◌, ◌++◌, length, map, fold, filter, slice_index, slice_set, Contains, All, Bool, true, not, Option, Some, if◌then◌else◌, ◌==◌}
+use Rattle.std.specs.Prelude.{ℕ, ◌≡◌, ◌≢◌, ◌<◌, ◌≤◌, ◌↔◌, ◌⊎◌, List, [], ◌∷◌, ◌++◌, length, map, fold, filter, slice_index, slice_set, Contains, All, true, not, Some, if◌then◌else◌, ◌==◌}
 use Rattle.tr_types.specs.declared.kernel_call.Holder.{Holder}
-use Rattle.tr_types.specs.declared.permission.Right.{Right}
 use Rattle.tr_types.specs.Rights.{process_of, is_same, are_together, is_held, with_row, without_row}
 
 pub record View : Type 0 where
@@ -24,8 +23,7 @@ AreItsPages id pages owners = (page : ℕ) → page < length owners → Contains
 
 -- rows of one process have one key for one coffer, and different ones for different coffers
 pub record HaveOwnKeys (threads : List (ℕ × ℕ)) (holders : List Holder) : Type 0 where
-  pub one_key : (h g : Holder) → Contains holders h → Contains holders g → are_together threads h.thread g.thread ≡ true → h.id ≡ g.id → h.key ≡ g.key
-  pub one_coffer : (h g : Holder) → Contains holders h → Contains holders g → are_together threads h.thread g.thread ≡ true → h.key ≡ g.key → h.id ≡ g.id
+  pub own : (h g : Holder) → Contains holders h → Contains holders g → are_together threads h.thread g.thread ≡ true → (h.id ≡ g.id) ↔ (h.key ≡ g.key)
 
 pub record IsRow (h : Holder) : Type 0 where
   pub least_id : 1 ≤ h.id
@@ -34,7 +32,7 @@ pub record IsRow (h : Holder) : Type 0 where
   pub greatest_key : h.key ≤ 15
 
 pub record IsSound (v : View) : Type 0 where
-  pub rows : (h : Holder) → Contains v.holders h → IsRow h
+  pub rows : All IsRow v.holders
   pub keys : HaveOwnKeys v.threads v.holders
   -- a page stands only under a coffer that is held
   pub held : (page : ℕ) → slice_index v.owners page ≢ 0 → is_held (slice_index v.owners page) v.holders ≡ true

@@ -1,5 +1,5 @@
 // How processes have coffers mapped, and pages under which coffers.
-ghost use Rattle.std.specs.Prelude.{◌≡◌, ◌≢◌, ℕ, ◌+◌, ◌*◌, ◌/◌, ◌%◌, ◌<◌, ◌≤◌, length, All, None, IfOk, slice_index_or, slice_set};
+ghost use Rattle.std.specs.Prelude.{◌≡◌, ◌≢◌, ℕ, ◌+◌, ◌*◌, ◌/◌, ◌%◌, ◌<◌, ◌≤◌, length, All, None, IfOk, slice_index, slice_index_or, slice_set};
 ghost use Rattle.std.specs.Vec.{vec_len};
 ghost use Rattle.page_rights.specs.Tables as tables;
 ghost use Rattle.page_rights.specs.Lookup.{place_of as spec_place, mapping_of};
@@ -25,6 +25,15 @@ pub fn nothing<T: Copy>(alloc: Global, count: usize) -> Result<Vec<Option<T>>, A
 {
     let places = vec![in alloc; None; count]?;
     Ok(places)
+}
+
+/// So many pages that stand under no coffer.
+pub fn unowned(alloc: Global, count: usize) -> Result<Vec<u16>, AllocError>
+    ensures len { IfOk result (λ v. length v.items ≡ count) }
+    ensures none { IfOk result (λ v. All (λ owner. owner ≡ 0) v.items) }
+{
+    let owners = vec![in alloc; 0; count]?;
+    Ok(owners)
 }
 
 /// The place of a process and a coffer of 0 to 256.
@@ -74,6 +83,18 @@ pub fn drop_process(mappings: &mut [Option<Mapping>], process: u8)
     }
 }
 
+/// The coffer under which a page stands, 0 for none and past the last page.
+pub fn owner_of(owners: &[u16], page: u32) -> u16
+    ensures { result ≡ slice_index owners.now page }
+{
+    let place = page as usize;
+    if place < owners.len() {
+        owners[place]
+    } else {
+        0
+    }
+}
+
 /// The pages stand under the coffer, or under none where it is 0.
 pub fn put_pages(owners: &mut [u16], id: u16, pages: &[u32])
     requires { All (λ page. page < length owners.old) pages.now }
@@ -92,6 +113,15 @@ pub fn drop_pages_of(owners: &mut [u16], id: u16)
         if *owner == id {
             *owner = 0;
         }
+    }
+}
+
+/// Once nobody holds the coffer, no page stands under it.
+pub fn drop_pages_unless_held(owners: &mut [u16], holders: &[Holder], id: u16)
+    ensures { owners.new ≡ tables.owners_unmapped id holders.now owners.old }
+{
+    if !is_held(holders, id) {
+        drop_pages_of(owners, id);
     }
 }
 

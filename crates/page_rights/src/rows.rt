@@ -1,9 +1,12 @@
 // What the list of holders says.
-ghost use Rattle.std.specs.Prelude.{◌≡◌, [], Some, IsSome, MatchOption};
+ghost use Rattle.std.specs.Prelude.{◌≡◌, ◌≤◌, ◌==◌, not, Some, IsSome, OnOk, OnErr};
 ghost use Rattle.tr_types.specs.Rights as rights;
+ghost use Rattle.std.specs.Vec.{vec_len, vec_capacity};
 ghost use Rattle.page_rights.specs.Lookup as lookup;
+ghost use Rattle.page_rights.specs.Tables as tables;
 
 use crate::mapping::Mapping;
+use std::alloc::AllocError;
 use tr_types::{Holder, Right};
 
 /// The process of a thread, by the thread's number.
@@ -124,14 +127,30 @@ pub fn key_for(processes: &[Option<u8>], holders: &[Holder], process: u8, id: u1
 
 /// The least thread that stands against a map of the coffer.
 pub fn least_against(holders: &[Holder], thread: u16, id: u16, exclusive: bool) -> Option<u16>
-    ensures { MatchOption result (rights.those_against thread id exclusive holders.now ≡ [])
-        (rights.IsLeastOf (rights.those_against thread id exclusive holders.now)) }
+    ensures { lookup.IsLeast (rights.those_against thread id exclusive holders.now) result }
 {
-    holders
-        .iter()
-        .filter(|h| h.id == id && h.thread != thread && (h.exclusive || exclusive))
-        .map(|h| h.thread)
-        .min()
+    let mut least = None;
+    for holder in holders {
+        if stands_against(holder, thread, id, exclusive) {
+            least = Some(lesser(least, holder.thread));
+        }
+    }
+    least
+}
+
+fn stands_against(holder: &Holder, thread: u16, id: u16, exclusive: bool) -> bool
+    ensures { result ≡ rights.stands_against thread id exclusive holder.now }
+{
+    holder.id == id && holder.thread != thread && (holder.exclusive || exclusive)
+}
+
+fn lesser(least: Option<u16>, thread: u16) -> u16
+    ensures { result ≡ lookup.lesser least thread }
+{
+    match least {
+        Some(least) => least.min(thread),
+        None => thread,
+    }
 }
 
 /// Whether the thread itself holds the coffer.
@@ -156,4 +175,50 @@ pub fn is_held(holders: &[Holder], id: u16) -> bool
         }
     }
     false
+}
+
+/// Ends the thread's own map of the coffer.
+pub fn drop_row(holders: &mut Vec<Holder>, thread: u16, id: u16)
+    ensures items { holders.new.items ≡ rights.without_row thread id holders.old.items }
+    ensures len { vec_len holders.new ≤ vec_len holders.old }
+    ensures capacity { vec_capacity holders.new ≡ vec_capacity holders.old }
+{
+    holders.retain(
+        |h: &Holder| -> bool
+            ensures { result ≡ not (rights.is_row_of thread id h.now) }
+        { !(h.thread == thread && h.id == id) },
+    );
+}
+
+/// Puts a row in the place of the thread's earlier one of the same coffer. An error changes nothing.
+pub fn put_row(holders: &mut Vec<Holder>, row: Holder) -> Result<(), AllocError>
+    ensures ok { OnOk result (holders.new.items ≡ rights.with_row row holders.old.items) }
+    ensures err { OnErr result (holders.new.items ≡ holders.old.items) }
+{
+    holders.reserve(1)?;
+    drop_row(holders, row.thread, row.id);
+    holders.push(row).unwrap();
+    Ok(())
+}
+
+/// Ends all maps of the coffer.
+pub fn drop_coffer(holders: &mut Vec<Holder>, id: u16)
+    ensures { holders.new.items ≡ tables.without_coffer id holders.old.items }
+{
+    holders.retain(
+        |h: &Holder| -> bool
+            ensures { result ≡ not (h.now.id == id) }
+        { h.id != id },
+    );
+}
+
+/// Ends all maps of the process.
+pub fn drop_process(holders: &mut Vec<Holder>, processes: &[Option<u8>], process: u8)
+    ensures { holders.new.items ≡ lookup.without_process_in processes.now process holders.old.items }
+{
+    holders.retain(
+        |h: &Holder| -> bool
+            ensures { result ≡ not (lookup.is_in processes.entry.now h.now.thread process) }
+        { !is_in(processes, h.thread, process) },
+    );
 }

@@ -1,14 +1,16 @@
 // The tables of all processes.
-ghost use Rattle.std.specs.Prelude.{◌≡◌, ◌≢◌, ℕ, ◌<◌, ◌≤◌, ◌↔◌, [], length, filter, slice_index, All, IsTrue, true, None, Some, IsSome, IfOk, OnOk, OnErr};
+ghost use Rattle.std.specs.Prelude.{◌≡◌, ◌≢◌, ℕ, ◌<◌, ◌≤◌, ◌↔◌, [], length, filter, slice_index, All, IsTrue, true, None, Some, IsSome, IfSome, IfOk, OnOk, OnErr};
 ghost use Rattle.std.specs.Result.{IsErrOf};
 ghost use Rattle.tr_types.specs.Rights as rights;
+ghost use Rattle.page_rights.specs.Lookup as lookup;
 ghost use Rattle.page_rights.specs.Tables as spec;
 
 use crate::mapping::{
-    Mapping, drop_coffer, drop_pages_of, drop_process, keep_held_pages, look_up, nothing, place_of, put_pages,
+    self, Mapping, drop_pages_of, drop_pages_unless_held, keep_held_pages, look_up, nothing,
+    owner_of, place_of, put_pages, unowned,
 };
 use crate::pkru::Pkru;
-use crate::rows::{holds_itself, is_held, is_in, key_for, least_against, process_at, process_of};
+use crate::rows::{self, drop_row, holds_itself, key_for, least_against, process_of, put_row};
 use std::alloc::{AllocError, Global};
 use std::marker::Model;
 use thiserror::Error;
@@ -67,13 +69,15 @@ impl Tables {
         ensures pages { IfOk result (λ t. length t.owners ≡ pages) }
         ensures owners { IfOk result (λ t. All (λ owner. owner ≡ 0) t.owners) }
     {
-        let owners = vec![in alloc; 0; pages as usize]?;
+        let owners = unowned(alloc, pages as usize)?;
+        let processes = nothing(alloc, THREADS)?;
+        let mappings = nothing(alloc, PLACES)?;
         Ok(Tables {
             threads: Vec::new(alloc),
-            processes: nothing(alloc, THREADS)?,
+            processes,
             holders: Vec::new(alloc),
             owners,
-            mappings: nothing(alloc, PLACES)?,
+            mappings,
         })
     }
 
@@ -110,12 +114,14 @@ impl Tables {
         requires same { IsTrue (rights.is_held id self.old.holders) → spec.AreItsPages id pages.now self.old.owners }
         ensures ok { IfOk result (λ key.
             self.new ≡ spec.mapped (record { thread = thread; id = id; key = key; right = right; exclusive = exclusive }) pages.now self.old) }
+        ensures held { OnOk result (IsTrue (rights.is_held id self.new.holders)) }
         ensures free { OnOk result (rights.those_against thread id exclusive self.old.holders ≡ []) }
         ensures key { IfOk result (λ key. rights.key_for self.old.threads self.old.holders thread id ≡ Some key) }
         ensures in_use { (other : ℕ) → IsErrOf result (MapFault.InUse other) ↔ rights.IsLeastOf (rights.those_against thread id exclusive self.old.holders) other }
         ensures no_key { IsErrOf result MapFault.NoKey
             ↔ ((rights.those_against thread id exclusive self.old.holders ≡ []) × (rights.key_for self.old.threads self.old.holders thread id ≡ None)) }
         ensures err { OnErr result (self.new ≡ self.old) }
+        ensures threads_stay { self.new.threads ≡ self.old.threads }
         ensures pages_stay { length self.new.owners ≡ length self.old.owners }
     {
         if let Some(other) = least_against(&self.holders, thread, id, exclusive) {
@@ -125,8 +131,6 @@ impl Tables {
         let Some(key) = key_for(&self.processes, &self.holders, process, id) else {
             return Err(MapFault::NoKey);
         };
-        self.holders.reserve(1).map_err(|_| MapFault::NoMemory)?;
-        self.holders.retain(|h| !(h.thread == thread && h.id == id));
         let row = Holder {
             thread,
             id,
@@ -134,7 +138,9 @@ impl Tables {
             right,
             exclusive,
         };
-        self.holders.push(row).unwrap();
+        if put_row(&mut self.holders, row).is_err() {
+            return Err(MapFault::NoMemory);
+        }
         put_pages(&mut self.owners, id, pages);
         look_up(
             &mut self.mappings,
@@ -152,16 +158,15 @@ impl Tables {
         requires started { IsSome (rights.process_of self.old.threads thread) }
         ensures held { result ≡ rights.holds_itself thread id self.old.holders }
         ensures after { self.new ≡ spec.unmapped thread id self.old }
+        ensures threads_stay { self.new.threads ≡ self.old.threads }
         ensures pages_stay { length self.new.owners ≡ length self.old.owners }
     {
         if !holds_itself(&self.holders, thread, id) {
             return false;
         }
         let process = process_of(&self.processes, thread);
-        self.holders.retain(|h| !(h.thread == thread && h.id == id));
-        if !is_held(&self.holders, id) {
-            drop_pages_of(&mut self.owners, id);
-        }
+        drop_row(&mut self.holders, thread, id);
+        drop_pages_unless_held(&mut self.owners, &self.holders, id);
         look_up(
             &mut self.mappings,
             &self.processes,
@@ -175,6 +180,7 @@ impl Tables {
     /// Who holds a coffer, the last mapped last.
     pub fn holders(&self, alloc: Global, id: u16) -> Result<Vec<Holder>, AllocError>
         ensures rows { IfOk result (λ rows. rows.items ≡ spec.rows_of id self.now.holders) }
+        ensures sound { spec.IsSound self.now }
     {
         self.holders
             .iter()
@@ -190,11 +196,7 @@ impl Tables {
         ensures fault { result ≡ rights.load_fault self.now.threads self.now.holders thread pkru.0 (slice_index self.now.owners page) }
         ensures sound { spec.IsSound self.now }
     {
-        match self.mapping(thread, page) {
-            None => Some(FaultKind::NotMapped),
-            Some(mapping) if pkru.may_read(mapping.key) => None,
-            Some(_) => Some(FaultKind::KeyDenied),
-        }
+        load_fault(self.mapping(thread, page), pkru)
     }
 
     /// Why a store to a page by a thread is refused; none if it may. A page past the last is not mapped.
@@ -204,12 +206,7 @@ impl Tables {
         ensures fault { result ≡ rights.store_fault self.now.threads self.now.holders thread pkru.0 (slice_index self.now.owners page) }
         ensures sound { spec.IsSound self.now }
     {
-        match self.mapping(thread, page) {
-            None => Some(FaultKind::NotMapped),
-            Some(mapping) if !mapping.writable => Some(FaultKind::NotWritable),
-            Some(mapping) if pkru.may_write(mapping.key) => None,
-            Some(_) => Some(FaultKind::KeyDenied),
-        }
+        store_fault(self.mapping(thread, page), pkru)
     }
 
     /// Puts pages into the tables of all holders of a coffer. An error leaves the tables as they were.
@@ -218,6 +215,7 @@ impl Tables {
         requires pages { All (spec.MayStand id self.old.owners) pages.now }
         ensures ok { OnOk result (self.new ≡ spec.with_owners (spec.with_pages id pages.now self.old.owners) self.old) }
         ensures err { OnErr result (self.new ≡ self.old) }
+        ensures threads_stay { self.new.threads ≡ self.old.threads }
         ensures pages_stay { length self.new.owners ≡ length self.old.owners }
     {
         put_pages(&mut self.owners, id, pages);
@@ -228,6 +226,7 @@ impl Tables {
     pub fn take_pages(&mut self, pages: &[u32])
         requires pages { All (λ page. page < length self.old.owners) pages.now }
         ensures after { self.new ≡ spec.with_owners (spec.with_pages 0 pages.now self.old.owners) self.old }
+        ensures threads_stay { self.new.threads ≡ self.old.threads }
         ensures pages_stay { length self.new.owners ≡ length self.old.owners }
     {
         put_pages(&mut self.owners, 0, pages);
@@ -236,34 +235,34 @@ impl Tables {
     /// Ends all maps of a coffer. Takes no memory.
     pub fn drop_coffer(&mut self, id: u16)
         ensures after { self.new ≡ spec.coffer_dropped id self.old }
+        ensures threads_stay { self.new.threads ≡ self.old.threads }
         ensures pages_stay { length self.new.owners ≡ length self.old.owners }
     {
-        self.holders.retain(|h| h.id != id);
+        rows::drop_coffer(&mut self.holders, id);
         drop_pages_of(&mut self.owners, id);
-        drop_coffer(&mut self.mappings, id);
+        mapping::drop_coffer(&mut self.mappings, id);
     }
 
     /// Ends all maps of a process. Pages of coffers that nobody holds then leave the tables. Takes no
     /// memory.
     pub fn drop_process(&mut self, process: u8)
         ensures after { self.new ≡ spec.process_dropped process self.old }
+        ensures threads_stay { self.new.threads ≡ self.old.threads }
         ensures pages_stay { length self.new.owners ≡ length self.old.owners }
     {
-        let processes = &self.processes;
-        self.holders
-            .retain(|h| !is_in(processes, h.thread, process));
+        rows::drop_process(&mut self.holders, &self.processes, process);
         keep_held_pages(&mut self.owners, &self.holders);
-        drop_process(&mut self.mappings, process);
+        mapping::drop_process(&mut self.mappings, process);
     }
 
     // How the process of the thread has the page's coffer mapped.
-    fn mapping(&self, thread: u16, page: u32) -> Option<Mapping> {
-        let place = page as usize;
-        let id = if place < self.owners.len() {
-            self.owners[place]
-        } else {
-            0
-        };
+    fn mapping(&self, thread: u16, page: u32) -> Option<Mapping>
+        requires { IsSome (rights.process_of self.now.threads thread) }
+        ensures mapping { result ≡ lookup.mapping_for self.now.threads self.now.holders thread (slice_index self.now.owners page) }
+        ensures key { IfSome result (λ mapping. mapping.key ≤ 15) }
+        ensures sound { spec.IsSound self.now }
+    {
+        let id = owner_of(&self.owners, page);
         let process = process_of(&self.processes, thread);
         self.mappings[place_of(process, id)]
     }
@@ -272,6 +271,40 @@ impl Tables {
     pub fn process_of(&self, thread: u16) -> Option<u8>
         ensures { result ≡ rights.process_of self.now.threads thread }
     {
-        process_at(&self.processes, thread)
+        rows::process_at(&self.processes, thread)
+    }
+}
+
+fn load_fault(mapping: Option<Mapping>, pkru: Pkru) -> Option<FaultKind>
+    requires { IfSome mapping (λ mapping. mapping.key ≤ 15) }
+    ensures { result ≡ lookup.load_fault_of mapping pkru.0 }
+{
+    match mapping {
+        None => Some(FaultKind::NotMapped),
+        Some(mapping) => {
+            if pkru.may_read(mapping.key) {
+                None
+            } else {
+                Some(FaultKind::KeyDenied)
+            }
+        }
+    }
+}
+
+fn store_fault(mapping: Option<Mapping>, pkru: Pkru) -> Option<FaultKind>
+    requires { IfSome mapping (λ mapping. mapping.key ≤ 15) }
+    ensures { result ≡ lookup.store_fault_of mapping pkru.0 }
+{
+    match mapping {
+        None => Some(FaultKind::NotMapped),
+        Some(mapping) => {
+            if !mapping.writable {
+                Some(FaultKind::NotWritable)
+            } else if pkru.may_write(mapping.key) {
+                None
+            } else {
+                Some(FaultKind::KeyDenied)
+            }
+        }
     }
 }
