@@ -1,12 +1,14 @@
 -- The parts of a machine, as a bus, and a step of a thread.
 use Rattle.std.specs.Prelude.{◌≡◌, ℕ, map}
-use Rattle.tr_types.specs.Machine.{Bus, Answers, CallAnswers, bus_after}
+use Rattle.zo_layout.specs.Layout.{root_control, root_page}
+use Rattle.tr_types.specs.Machine.{Bus, Answers, CallAnswers, bus_after, root_perm}
 use Rattle.tr_types.specs.declared.action.Action.{Action}
 use Rattle.tr_types.specs.declared.action.Action.TheVariants.{Kernel}
 use Rattle.tr_types.specs.declared.action.Answer.{Answer}
 use Rattle.tr_types.specs.declared.action.Answer.TheVariants.{Kern}
 use Rattle.tr_types.specs.declared.kernel_call.Kcall.{Kcall}
 use Rattle.tr_types.specs.declared.kernel_call.KernAnswer.{KernAnswer}
+use Rattle.tr_types.specs.declared.kernel_call.Mapped.{Mapped}
 use Rattle.bus_machine.specs.Ties.{HasOwners, AreTold, AreSmall}
 use Rattle.bus_machine.specs.declared.parts.Parts.{Parts}
 
@@ -35,3 +37,7 @@ pub record DoesCall (old new : Parts) (thread : ℕ) (call : Kcall) (answer : Ke
   pub answers : CallAnswers (bus_of old) thread call answer
   pub after : bus_of new ≡ bus_after thread (Kernel call) (Kern answer) (bus_of old)
   pub tied : AreTied new
+
+-- the root coffer of so many pages, in a memory of `all` pages, as it is mapped under a key
+abbrev pub mapped_in : ℕ → ℕ → ℕ → Mapped
+mapped_in all pages key = record { id = 1; key = key; control = root_control all; root = root_page all; pages = pages; path_len = 1; perm = root_perm }

@@ -1,5 +1,6 @@
 // The parts of a machine whose memory hasn't run out.
-ghost use Rattle.std.specs.Prelude.{◌≡◌, ℕ, List, ◌<◌, ◌/◌, ◌↔◌, length, IfOk, OnOk, IsTrue, IsSome, is_some, Contains, None};
+ghost use Rattle.std.specs.Prelude.{◌≡◌, ℕ, List, ◌<◌, ◌≤◌, ◌↔◌, length, IfOk, OnOk, IsTrue, IsSome, is_some, Contains, None};
+ghost use Rattle.std.specs.List.{Any};
 ghost use Rattle.pm_words.specs.Memory.{all_durable};
 ghost use Rattle.tr_types.specs.NewImage.{new_image};
 ghost use Rattle.tr_types.specs.KernelView.{pages_of};
@@ -9,7 +10,7 @@ ghost use Rattle.tr_types.specs.declared.action.Action.TheVariants.{Store, Pkru 
 ghost use Rattle.tr_types.specs.declared.kernel_call.Kcall.TheVariants.{Map, Unmap, Enlarge};
 ghost use Rattle.tr_types.specs.declared.kernel_call.KernAnswer.TheVariants.{Found};
 ghost use Rattle.bus_machine.specs.Calls.{IsBuilt, IsBuiltCall};
-ghost use Rattle.bus_machine.specs.Parts.{bus_of, AreTied, DoesAct, DoesCall};
+ghost use Rattle.bus_machine.specs.Parts.{bus_of, AreTied, DoesAct, DoesCall, mapped_in};
 
 use crate::pages::{give, page_list};
 use page_rights::{MapFault, Pkru, Tables};
@@ -17,7 +18,7 @@ use pm_words::Words;
 use sqlite_items::{Boxed, Items};
 use std::alloc::{AllocError, Global};
 use tr_types::{
-    Action, Answer, Cred, FaultKind, FoundAt, Kcall, KernAnswer, Mapped, Path, Perm, Right,
+    Action, Answer, Cred, FaultKind, FoundAt, Holder, Kcall, KernAnswer, Mapped, Path, Perm, Right,
 };
 use zo_layout::{kernel_pages, root_control, root_page};
 
@@ -63,6 +64,7 @@ impl Parts {
         ensures tied { IfOk result AreTied }
     {
         let pages = words.pages();
+        let pkrus = vec![in alloc; Pkru::closed().0; THREADS]?;
         Ok(Parts {
             alloc,
             pages,
@@ -70,14 +72,14 @@ impl Parts {
             first_free: root_page(pages) + 1,
             processes: Vec::new(alloc),
             tables: Tables::new(alloc, pages)?,
-            pkrus: vec![in alloc; Pkru::closed().0; THREADS]?,
+            pkrus,
         })
     }
 
     pub fn has_process(&self, process: u8) -> bool
         ensures { IsTrue result ↔ Contains (bus_of self.now).processes process }
     {
-        self.processes.iter().any(|started| started.0 == process)
+        is_among(&self.processes, process)
     }
 
     pub fn has_thread(&self, thread: u16) -> bool
@@ -231,7 +233,7 @@ impl Parts {
         let pages = self.first_free - first;
         let list = page_list(self.alloc, first, pages)?;
         match self.tables.map(thread, ROOT, right, exclusive, &list) {
-            Ok(key) => Ok(KernAnswer::Mapped(self.mapped(key, pages))),
+            Ok(key) => Ok(KernAnswer::Mapped(root_mapped(self.pages, pages, key))),
             Err(MapFault::InUse(other)) => Ok(KernAnswer::InUse {
                 thread: other,
                 id: ROOT,
@@ -242,19 +244,6 @@ impl Parts {
                 path_len: ROOT_PATH_LEN,
             }),
             Err(MapFault::NoMemory) => Err(AllocError),
-        }
-    }
-
-    // The root coffer, mapped under a key.
-    fn mapped(&self, key: u8, pages: u32) -> Mapped {
-        Mapped {
-            id: ROOT,
-            key,
-            control: root_control(self.pages),
-            root: root_page(self.pages),
-            pages,
-            path_len: ROOT_PATH_LEN,
-            perm: ROOT_PERM,
         }
     }
 
@@ -297,11 +286,7 @@ impl Parts {
         ensures { IfOk result (λ holds. holds ≡ spec.holds_to_write thread id self.now.tables.holders) }
     {
         let holders = self.tables.holders(self.alloc, id)?;
-        Ok(
-            holders
-                .iter()
-                .any(|h| h.thread == thread && allows_writing(h.right)),
-        )
+        Ok(writes(&holders, thread, id))
     }
 }
 
@@ -318,6 +303,41 @@ fn found(path: &Path) -> KernAnswer
         },
         second: None,
     }
+}
+
+// The root coffer of so many pages, in a memory of `all` pages, as it is mapped under a key.
+fn root_mapped(all: u32, pages: u32, key: u8) -> Mapped
+    requires { all ≤ 16384 }
+    ensures { result ≡ mapped_in all pages key }
+{
+    Mapped {
+        id: ROOT,
+        key,
+        control: root_control(all),
+        root: root_page(all),
+        pages,
+        path_len: ROOT_PATH_LEN,
+        perm: ROOT_PERM,
+    }
+}
+
+// Whether the process is one of these.
+fn is_among(processes: &[(u8, Cred)], process: u8) -> bool
+    ensures { IsTrue result ↔ Any (λ started. started.0 ≡ process) processes.now }
+{
+    processes.iter().any(|started| started.0 == process)
+}
+
+// Whether the thread is one of the holders that write in the coffer.
+fn writes(holders: &[Holder], thread: u16, id: u16) -> bool
+    ensures { result ≡ spec.holds_to_write thread id holders.now }
+{
+    for holder in holders {
+        if holder.thread == thread && holder.id == id && allows_writing(holder.right) {
+            return true;
+        }
+    }
+    false
 }
 
 fn allows_writing(right: Right) -> bool

@@ -1,14 +1,14 @@
 -- Each change leaves the parts of the tables tied together.
-use Rattle.std.proofs.Common.{◌≡◌, ◌≢◌, ℕ, suc, ◌+◌, ◌*◌, ◌/◌, ◌%◌, ◌<◌, ◌≤◌, ◌↔◌, List, [], ◌∷◌, ◌++◌, Bool, true, false, not, ◌&&◌, ◌||◌, length, get_or, set, map, refl, ap, sym, subst, ◌∙◌, ◌⊎◌, inl, inr, cond, eqb, arith, All, Contains, Option, Some, None, get_or-set_same, get_or-set_other}
+use Rattle.std.proofs.Common.{◌≡◌, ◌≢◌, ℕ, ◌+◌, ◌/◌, ◌%◌, ◌<◌, ◌≤◌, ◌↔◌, List, [], ◌∷◌, ◌++◌, Bool, true, false, not, length, get_or, set, refl, ap, sym, subst, ◌∙◌, ◌⊎◌, inl, inr, cond, eqb, arith, All, Contains, Option, Some, None, get_or-set_same, get_or-set_other}
 use Rattle.std.specs.Prelude.{filter}
-use Rattle.std.proofs.lemmas.Bool.{cases_eq, cases_lt, cases_Bool, eq-eqb, eqb-true, eqb-false, ne_eqb, and_parts, and_from, and_left, and_right, not-true, not-false, not_from_false, false_from_ne_true, both_ways}
+use Rattle.std.proofs.lemmas.Bool.{cases_eq, cases_lt, eq-eqb, eqb-true, eqb-false, ne_eqb, and_parts, and_from, and_left, and_right, not-true, not-false, not_from_false, false_from_ne_true, both_ways}
 use Rattle.std.proofs.lemmas.List.{length-set, length-map, get_or_past, get_or-map}
 use Rattle.std.proofs.lemmas.List.Elements.{All-nil, All-filter, filter_passes, All-contains, All-contains_itself, All-push, All-weaker, Contains-push_cases}
 use Rattle.tr_types.specs.declared.kernel_call.Holder.{Holder}
 use Rattle.tr_types.specs.Rights.{process_of, is_same, is_row_of, is_held, without_row, with_row, first_of, or_key}
 use Rattle.page_rights.specs.declared.mapping.Mapping.{Mapping}
 use Rattle.page_rights.specs.Tables.{IsRow, with_pages, without_pages_of, with_held_pages, owners_unmapped, without_coffer}
-use Rattle.page_rights.specs.Lookup.{process_at, is_in, holds_in, uses_key_in, is_free_in, free_in, key_of, key_for_in, without_process_in, mapping_by, mapping_of, mapping_at, place_of, AreTied}
+use Rattle.page_rights.specs.Lookup.{process_at, is_in, holds_in, uses_key_in, is_free_in, free_in, key_of, key_for_in, without_process_in, mapping_of, mapping_at, place_of, AreTied}
 use Rattle.page_rights.proofs.PageLemmas.{pages_either}
 use Rattle.page_rights.proofs.RowLemmas.{mapping_of_filter, mapping_of_push, mapping_of_none, mapping_of_threads, key_found, no_key, free_key, first_found, held_filter, held_push, held_last}
 
@@ -287,9 +287,10 @@ module _ (threads : List (ℕ × ℕ)) (processes : List (Option ℕ)) (holders 
     row_fits_by None found chosen h has inside =
         let free = first_found (is_free_in processes holders here) 1 15 row.key chosen in
         let unused = All-contains (λ h. uses_key_in processes here row.key h ≡ false) holders h (free_key processes here row.key holders free.0) has in
-        let unmapped = All-contains (λ h. holds_in processes here row.id h ≡ false) holders h (no_key processes here row.id holders found) has in
-        (λ e. absurd (both_ways (holds_in processes here row.id h) unmapped (and_from (eqb h.id row.id) (is_in processes h.thread here) (eq-eqb h.id row.id e) inside)),
-        λ e. absurd (both_ways (uses_key_in processes here row.key h) unused (and_from (eqb h.key row.key) (is_in processes h.thread here) (eq-eqb h.key row.key e) inside)))
+        let unmapped = All-contains (λ h. holds_in processes here row.id h ≡ false) holders h (no_key processes here row.id holders found) has in (
+          λ e. absurd (both_ways (holds_in processes here row.id h) unmapped (and_from (eqb h.id row.id) (is_in processes h.thread here) (eq-eqb h.id row.id e) inside)),
+          λ e. absurd (both_ways (uses_key_in processes here row.key h) unused (and_from (eqb h.key row.key) (is_in processes h.thread here) (eq-eqb h.key row.key e) inside)),
+        )
 
     row_fits : (h : Holder) → Contains holders h → is_in processes h.thread here ≡ true → (h.id ≡ row.id) ↔ (h.key ≡ row.key)
     row_fits = row_fits_by (key_of processes holders here row.id) refl key
@@ -336,9 +337,9 @@ module _ (threads : List (ℕ × ℕ)) (processes : List (Option ℕ)) (holders 
           small = tied.small;
           rows = All-push IsRow (without_row row.thread row.id holders) row (All-filter (λ h. not (is_row_of row.thread row.id h)) IsRow holders tied.rows) is_row;
           row_threads = All-push (λ h. process_at processes h.thread ≢ None) (without_row row.thread row.id holders) row
-            (All-filter (λ h. not (is_row_of row.thread row.id h)) (λ h. process_at processes h.thread ≢ None) holders tied.row_threads) (λ none. not_both (sym is ∙ none));
+              (All-filter (λ h. not (is_row_of row.thread row.id h)) (λ h. process_at processes h.thread ≢ None) holders tied.row_threads) (λ none. not_both (sym is ∙ none));
           own = λ process h g has_h has_g in_h in_g.
-            fits process h g (Contains-push_cases (without_row row.thread row.id holders) row h has_h) (Contains-push_cases (without_row row.thread row.id holders) row g has_g) in_h in_g;
+              fits process h g (Contains-push_cases (without_row row.thread row.id holders) row h has_h) (Contains-push_cases (without_row row.thread row.id holders) row g has_g) in_h in_g;
           held = held_with_pages now row.id pages (λ _. held_last (without_row row.thread row.id holders) row) (λ coffer held. held_now coffer (cases_eq coffer row.id) held);
           places = length-set mappings (place_of here row.id) (mapping_of processes now here row.id) ∙ tied.places;
           kept = kept_put processes holders now mappings here row.id (tied.small row.thread here is) greatest_id tied.places tied.kept others_now;

@@ -1,6 +1,8 @@
-mod RegisterLemmas
-mod PageLemmas
+pub mod RegisterLemmas
+pub mod PageLemmas
 mod RowLemmas
+pub mod LawLemmas
 mod ThreadLemmas
 mod TiedLemmas
 mod ChangeLemmas
+mod AnswerLemmas

@@ -1,5 +1,5 @@
 -- What the values of the register allow, by a look at each.
-use Rattle.std.proofs.Common.{◌≡◌, ℕ, ◌+◌, ◌*◌, ◌-◌, ◌<◌, ◌≤◌, ◌^◌, ◌&&◌, Bool, true, false, refl, ap, sym, subst, ◌∙◌, ◌⊎◌, inl, inr, arith, eqb}
+use Rattle.std.proofs.Common.{◌≡◌, ℕ, ◌+◌, ◌*◌, ◌-◌, ◌<◌, ◌≤◌, ◌^◌, ◌&&◌, Bool, true, false, refl, ap, subst, ◌⊎◌, inl, inr, arith, eqb}
 use Rattle.std.proofs.lemmas.Bool.{cases_lt, agree_below, agree_below_at}
 use Rattle.std.proofs.lemmas.Nat.{pow_below}
 use Rattle.tr_types.specs.Rights.{may_read, may_write, closed_pkru, only_pkru}

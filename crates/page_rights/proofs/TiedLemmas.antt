@@ -1,18 +1,17 @@
 -- What ties the parts of the tables together, and that changes keep it.
-use Rattle.std.proofs.Common.{◌≡◌, ◌≢◌, ℕ, suc, ◌+◌, ◌*◌, ◌<◌, ◌≤◌, ◌↔◌, List, [], ◌∷◌, ◌++◌, Bool, true, false, not, ◌&&◌, ◌||◌, length, get_or, set, map, refl, ap, sym, subst, ◌∙◌, ◌⊎◌, inl, inr, cond, eqb, arith, All, Contains, Option, Some, None, get_or-set_same, get_or-set_other}
-use Rattle.std.specs.Prelude.{filter, IsSome, IfSome, is_some}
-use Rattle.std.proofs.lemmas.Bool.{cases_eq, cases_lt, eq-eqb, eqb-true, ne_eqb, and_parts, or_cases, not-false, false_from_ne_true, both_ways}
-use Rattle.std.proofs.lemmas.List.{length-set, get_or_past, get_or-map}
-use Rattle.std.proofs.lemmas.List.Elements.{All-head, All-tail, All-filter, All-contains, All-contains_itself, All-push, Contains-push_cases}
+use Rattle.std.proofs.Common.{◌≡◌, ℕ, ◌<◌, ◌≤◌, ◌↔◌, List, [], ◌∷◌, true, false, length, get_or, refl, ap, sym, subst, ◌∙◌, ◌⊎◌, inl, inr, eqb, arith, All, Contains, Option, Some, None}
+use Rattle.std.specs.Prelude.{IsSome, IfSome, is_some}
+use Rattle.std.proofs.lemmas.Bool.{cases_eq, eq-eqb, eqb-true, or_cases, both_ways}
+use Rattle.std.proofs.lemmas.List.Elements.{All-head, All-tail, All-contains}
 use Rattle.tr_types.specs.declared.kernel_call.Holder.{Holder}
 use Rattle.tr_types.specs.Rights.{process_of, is_same, are_together, is_held}
 use Rattle.page_rights.specs.declared.mapping.Mapping.{Mapping}
 use Rattle.page_rights.specs.Tables.{View, IsRow, IsSound}
-use Rattle.page_rights.specs.Lookup.{process_at, is_in, holds_in, key_of, is_writable_in, mapping_by, mapping_of, mapping_at, mapping_for, place_of, AreTied}
+use Rattle.page_rights.specs.Lookup.{process_at, holds_in, key_of, is_writable_in, mapping_by, mapping_of, mapping_for, place_of, AreTied}
 use Rattle.page_rights.proofs.RowLemmas.{key_found, mapping_by_thread}
 
 -- a held coffer is one of 1 to 256
-held_bound : (coffer : ℕ) (holders : List Holder) → All IsRow holders → is_held coffer holders ≡ true → coffer ≤ 256
+pub held_bound : (coffer : ℕ) (holders : List Holder) → All IsRow holders → is_held coffer holders ≡ true → coffer ≤ 256
 held_bound coffer [] rows held = absurd (both_ways false refl held)
 held_bound coffer (h ∷ holders) rows held = by (held_bound coffer holders (All-tail IsRow h holders rows)) (or_cases (eqb h.id coffer) (is_held coffer holders) held)
   where

@@ -1,6 +1,8 @@
--- What the values of the register that are used allow.
-use Rattle.std.specs.Prelude.{ℕ, ◌≡◌, ◌≤◌, Bool, true, false, ◌==◌, ◌&&◌}
-use Rattle.tr_types.specs.Rights.{may_read, may_write, closed_pkru, only_pkru}
+-- What the values of the register that are used allow, and what the keys say.
+use Rattle.std.specs.Prelude.{ℕ, ◌≡◌, ◌≢◌, ◌≤◌, ◌↔◌, Contains, Bool, true, false, Some, None, ◌==◌, ◌&&◌}
+use Rattle.tr_types.specs.declared.kernel_call.Holder.{Holder}
+use Rattle.tr_types.specs.Rights.{may_read, may_write, closed_pkru, only_pkru, key_in, key_for, are_together, load_fault, store_fault}
+use Rattle.page_rights.specs.Tables.{View, IsSound}
 
 -- one key of 1 to 15 alone, for loads, and for stores as asked
 abbrev pub OnlyOneKey : Type 0
@@ -11,3 +13,23 @@ OnlyOneKey =
 -- no key of 1 to 15
 abbrev pub ClosedToAll : Type 0
 ClosedToAll = (key : ℕ) → 1 ≤ key → key ≤ 15 → (may_read closed_pkru key ≡ false) × (may_write closed_pkru key ≡ false)
+
+-- Under a key open alone, only pages of its own coffer are reached, and with none open, no page at all.
+abbrev pub OpensItsCofferAlone : Type 0
+OpensItsCofferAlone =
+    (v : View) (thread coffer key other : ℕ) (writable : Bool) → IsSound v → key_in v.threads v.holders thread coffer ≡ Some key
+    → (load_fault v.threads v.holders thread (only_pkru key writable) other ≡ None → other ≡ coffer) × (store_fault v.threads v.holders thread (only_pkru key writable) other ≡ None → other ≡ coffer)
+
+abbrev pub ClosedOpensNothing : Type 0
+ClosedOpensNothing =
+    (v : View) (thread other : ℕ) → IsSound v
+    → (load_fault v.threads v.holders thread closed_pkru other ≢ None) × (store_fault v.threads v.holders thread closed_pkru other ≢ None)
+
+-- a thread of this thread's process holds another coffer under the key
+abbrev pub HasOtherAt : View → ℕ → ℕ → ℕ → Type 0
+HasOtherAt v thread coffer key = (h : Holder) × Contains v.holders h × (are_together v.threads h.thread thread ≡ true) × (h.key ≡ key) × (h.id ≢ coffer)
+
+-- There is no key for a coffer exactly where the process has another coffer mapped under each of the 15.
+abbrev pub NoKeyMeansFifteenOthers : Type 0
+NoKeyMeansFifteenOthers =
+    (v : View) (thread coffer : ℕ) → IsSound v → (key_for v.threads v.holders thread coffer ≡ None) ↔ ((key : ℕ) → 1 ≤ key → key ≤ 15 → HasOtherAt v thread coffer key)

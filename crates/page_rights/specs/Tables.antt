@@ -1,7 +1,6 @@
 -- The tables as their callers see them, and what each change leaves of them.
-use Rattle.std.specs.Prelude.{ℕ, ◌≡◌, ◌≢◌, ◌<◌, ◌≤◌, ◌↔◌, ◌⊎◌, List, [], ◌∷◌, ◌++◌, length, map, fold, filter, slice_index, slice_set, Contains, All, Bool, true, not, Option, Some, if◌then◌else◌, ◌==◌}
+use Rattle.std.specs.Prelude.{ℕ, ◌≡◌, ◌≢◌, ◌<◌, ◌≤◌, ◌↔◌, ◌⊎◌, List, [], ◌∷◌, ◌++◌, length, map, fold, filter, slice_index, slice_set, Contains, All, true, not, Some, if◌then◌else◌, ◌==◌}
 use Rattle.tr_types.specs.declared.kernel_call.Holder.{Holder}
-use Rattle.tr_types.specs.declared.permission.Right.{Right}
 use Rattle.tr_types.specs.Rights.{process_of, is_same, are_together, is_held, with_row, without_row}
 
 pub record View : Type 0 where

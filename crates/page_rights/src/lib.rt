@@ -5,11 +5,13 @@
 //! the key open; it may store where moreover a thread of its process has mapped it for writing.
 #![tactic(auto)]
 
+mod laws;
 mod mapping;
 mod pkru;
 mod rows;
 mod tables;
 
+pub use laws::{keys_law, register_law};
 pub use pkru::Pkru;
 pub use tables::{MapFault, Tables};
 

@@ -116,6 +116,15 @@ pub fn drop_pages_of(owners: &mut [u16], id: u16)
     }
 }
 
+/// Once nobody holds the coffer, no page stands under it.
+pub fn drop_pages_unless_held(owners: &mut [u16], holders: &[Holder], id: u16)
+    ensures { owners.new ≡ tables.owners_unmapped id holders.now owners.old }
+{
+    if !is_held(holders, id) {
+        drop_pages_of(owners, id);
+    }
+}
+
 /// A page stands only under a coffer that somebody holds.
 pub fn keep_held_pages(owners: &mut [u16], holders: &[Holder])
     ensures { owners.new ≡ tables.with_held_pages holders.now owners.old }

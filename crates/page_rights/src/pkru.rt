@@ -1,7 +1,6 @@
 // The register of a thread that says which keys are open to it.
 ghost use Rattle.std.specs.Prelude.{◌≡◌, ◌≤◌};
 ghost use Rattle.tr_types.specs.Rights as rights;
-ghost use Rattle.page_rights.specs.Laws.{OnlyOneKey, ClosedToAll};
 
 /// Key 0 alone is open.
 const CLOSED: u32 = 0x5555_5554;
@@ -53,9 +52,3 @@ fn has_bit(word: u32, index: u8) -> bool
 {
     (word >> index) % 2 == 1
 }
-
-/// A law of the register: `only` opens one key of 1 to 15 and no other, and `closed` opens none.
-pub fn keys_law()
-    ensures one { OnlyOneKey }
-    ensures none { ClosedToAll }
-{}

@@ -6,13 +6,11 @@ ghost use Rattle.page_rights.specs.Lookup as lookup;
 ghost use Rattle.page_rights.specs.Tables as spec;
 
 use crate::mapping::{
-    self, Mapping, drop_pages_of, keep_held_pages, look_up, nothing, owner_of, place_of, put_pages,
-    unowned,
+    self, Mapping, drop_pages_of, drop_pages_unless_held, keep_held_pages, look_up, nothing,
+    owner_of, place_of, put_pages, unowned,
 };
 use crate::pkru::Pkru;
-use crate::rows::{
-    self, drop_row, holds_itself, is_held, key_for, least_against, process_at, process_of, put_row,
-};
+use crate::rows::{self, drop_row, holds_itself, key_for, least_against, process_of, put_row};
 use std::alloc::{AllocError, Global};
 use std::marker::Model;
 use thiserror::Error;
@@ -116,12 +114,14 @@ impl Tables {
         requires same { IsTrue (rights.is_held id self.old.holders) → spec.AreItsPages id pages.now self.old.owners }
         ensures ok { IfOk result (λ key.
             self.new ≡ spec.mapped (record { thread = thread; id = id; key = key; right = right; exclusive = exclusive }) pages.now self.old) }
+        ensures held { OnOk result (IsTrue (rights.is_held id self.new.holders)) }
         ensures free { OnOk result (rights.those_against thread id exclusive self.old.holders ≡ []) }
         ensures key { IfOk result (λ key. rights.key_for self.old.threads self.old.holders thread id ≡ Some key) }
         ensures in_use { (other : ℕ) → IsErrOf result (MapFault.InUse other) ↔ rights.IsLeastOf (rights.those_against thread id exclusive self.old.holders) other }
         ensures no_key { IsErrOf result MapFault.NoKey
             ↔ ((rights.those_against thread id exclusive self.old.holders ≡ []) × (rights.key_for self.old.threads self.old.holders thread id ≡ None)) }
         ensures err { OnErr result (self.new ≡ self.old) }
+        ensures threads_stay { self.new.threads ≡ self.old.threads }
         ensures pages_stay { length self.new.owners ≡ length self.old.owners }
     {
         if let Some(other) = least_against(&self.holders, thread, id, exclusive) {
@@ -138,7 +138,9 @@ impl Tables {
             right,
             exclusive,
         };
-        put_row(&mut self.holders, row).map_err(|_| MapFault::NoMemory)?;
+        if put_row(&mut self.holders, row).is_err() {
+            return Err(MapFault::NoMemory);
+        }
         put_pages(&mut self.owners, id, pages);
         look_up(
             &mut self.mappings,
@@ -156,6 +158,7 @@ impl Tables {
         requires started { IsSome (rights.process_of self.old.threads thread) }
         ensures held { result ≡ rights.holds_itself thread id self.old.holders }
         ensures after { self.new ≡ spec.unmapped thread id self.old }
+        ensures threads_stay { self.new.threads ≡ self.old.threads }
         ensures pages_stay { length self.new.owners ≡ length self.old.owners }
     {
         if !holds_itself(&self.holders, thread, id) {
@@ -163,9 +166,7 @@ impl Tables {
         }
         let process = process_of(&self.processes, thread);
         drop_row(&mut self.holders, thread, id);
-        if !is_held(&self.holders, id) {
-            drop_pages_of(&mut self.owners, id);
-        }
+        drop_pages_unless_held(&mut self.owners, &self.holders, id);
         look_up(
             &mut self.mappings,
             &self.processes,
@@ -179,6 +180,7 @@ impl Tables {
     /// Who holds a coffer, the last mapped last.
     pub fn holders(&self, alloc: Global, id: u16) -> Result<Vec<Holder>, AllocError>
         ensures rows { IfOk result (λ rows. rows.items ≡ spec.rows_of id self.now.holders) }
+        ensures sound { spec.IsSound self.now }
     {
         self.holders
             .iter()
@@ -213,6 +215,7 @@ impl Tables {
         requires pages { All (spec.MayStand id self.old.owners) pages.now }
         ensures ok { OnOk result (self.new ≡ spec.with_owners (spec.with_pages id pages.now self.old.owners) self.old) }
         ensures err { OnErr result (self.new ≡ self.old) }
+        ensures threads_stay { self.new.threads ≡ self.old.threads }
         ensures pages_stay { length self.new.owners ≡ length self.old.owners }
     {
         put_pages(&mut self.owners, id, pages);
@@ -223,6 +226,7 @@ impl Tables {
     pub fn take_pages(&mut self, pages: &[u32])
         requires pages { All (λ page. page < length self.old.owners) pages.now }
         ensures after { self.new ≡ spec.with_owners (spec.with_pages 0 pages.now self.old.owners) self.old }
+        ensures threads_stay { self.new.threads ≡ self.old.threads }
         ensures pages_stay { length self.new.owners ≡ length self.old.owners }
     {
         put_pages(&mut self.owners, 0, pages);
@@ -231,6 +235,7 @@ impl Tables {
     /// Ends all maps of a coffer. Takes no memory.
     pub fn drop_coffer(&mut self, id: u16)
         ensures after { self.new ≡ spec.coffer_dropped id self.old }
+        ensures threads_stay { self.new.threads ≡ self.old.threads }
         ensures pages_stay { length self.new.owners ≡ length self.old.owners }
     {
         rows::drop_coffer(&mut self.holders, id);
@@ -242,6 +247,7 @@ impl Tables {
     /// memory.
     pub fn drop_process(&mut self, process: u8)
         ensures after { self.new ≡ spec.process_dropped process self.old }
+        ensures threads_stay { self.new.threads ≡ self.old.threads }
         ensures pages_stay { length self.new.owners ≡ length self.old.owners }
     {
         rows::drop_process(&mut self.holders, &self.processes, process);
@@ -265,7 +271,7 @@ impl Tables {
     pub fn process_of(&self, thread: u16) -> Option<u8>
         ensures { result ≡ rights.process_of self.now.threads thread }
     {
-        process_at(&self.processes, thread)
+        rows::process_at(&self.processes, thread)
     }
 }
 

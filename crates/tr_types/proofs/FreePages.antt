@@ -13,14 +13,14 @@ use Rattle.tr_types.specs.FreePages.{IsFreeFrom}
 
 -- A test that fails below a number and holds from there on keeps the rest of a range.
 
-filter_all : (test : ℕ → Bool) (a n : ℕ) → ((i : ℕ) → a ≤ i → i < a + n → test i ≡ true) → filter test (range_with_len a n) ≡ range_with_len a n
+pub filter_all : (test : ℕ → Bool) (a n : ℕ) → ((i : ℕ) → a ≤ i → i < a + n → test i ≡ true) → filter test (range_with_len a n) ≡ range_with_len a n
 filter_all test a zero all = refl
 filter_all test a (suc n) all =
     let here : test a ≡ true = all a (omega arith) (omega arith) in
     ap (λ (b : Bool). cond b (a ∷ filter test (range_with_len (a + 1) n)) (filter test (range_with_len (a + 1) n))) here
     ∙ ap (λ (xs : List ℕ). a ∷ xs) (filter_all test (a + 1) n (λ i low high. all i (omega arith) (omega arith)))
 
-filter_from : (test : ℕ → Bool) (skipped a n left : ℕ) → n ≡ skipped + left → ((i : ℕ) → a ≤ i → i < a + skipped → test i ≡ false) → ((i : ℕ) → a + skipped ≤ i → i < a + n → test i ≡ true)
+pub filter_from : (test : ℕ → Bool) (skipped a n left : ℕ) → n ≡ skipped + left → ((i : ℕ) → a ≤ i → i < a + skipped → test i ≡ false) → ((i : ℕ) → a + skipped ≤ i → i < a + n → test i ≡ true)
     → filter test (range_with_len a n) ≡ range_with_len (a + skipped) left
 filter_from test zero a n left sum fails holds =
     let start : a ≡ a + 0 = omega arith in
@@ -145,7 +145,7 @@ owner_in_page pages page at i lt at_is i_is =
     ∙ ap (λ (k : ℕ). owner_table_word pages k) place
     ∙ ap (λ (t : Bool). cond t (owner_in_new pages page) 0) (lt-ltb page pages lt)
 
-owner_new : (pages page : ℕ) → 64 ≤ pages → pages ≤ 16384 → page < pages → owner_of (all_durable (new_image pages)) page ≡ owner_in_new pages page
+pub owner_new : (pages page : ℕ) → 64 ≤ pages → pages ≤ 16384 → page < pages → owner_of (all_durable (new_image pages)) page ≡ owner_in_new pages page
 owner_new pages page least most lt =
     let size = size_opened pages least most in
     let at = owner_address (512 * pages) pages page (record { whole = refl; least = least; most = most }) lt in

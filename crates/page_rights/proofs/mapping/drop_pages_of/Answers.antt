@@ -1,4 +1,4 @@
-use Rattle.std.proofs.Common.{◌≡◌, ℕ, ◌<◌, cond, eqb, length, get_or, refl, sym, ap, arith}
+use Rattle.std.proofs.Common.{◌<◌, cond, eqb, length, get_or, refl, sym, ap, arith}
 use Rattle.std.proofs.lemmas.Bool.{eq-eqb, ne_eqb}
 use Rattle.page_rights.proofs.PageLemmas.{over_more}
 use Rattle.page_rights.proofs.mapping.drop_pages_of.Goals as goal

@@ -1,4 +1,4 @@
-use Rattle.std.proofs.Common.{◌≡◌, ℕ, ◌<◌, cond, length, get_or, refl, sym, ap, arith, ◌∙◌}
+use Rattle.std.proofs.Common.{◌<◌, cond, length, get_or, refl, sym, ap, arith, ◌∙◌}
 use Rattle.tr_types.specs.Rights.{is_held}
 use Rattle.page_rights.proofs.PageLemmas.{over_more}
 use Rattle.page_rights.proofs.mapping.keep_held_pages.Goals as goal

@@ -1,4 +1,4 @@
-use Rattle.std.proofs.Common.{eqb, not}
+use Rattle.std.proofs.Common.{not}
 use Rattle.std.proofs.lemmas.Fn.{filter_same}
 use Rattle.tr_types.specs.declared.kernel_call.Holder.{Holder}
 use Rattle.std.proofs.Common.{rules}

@@ -1,4 +1,4 @@
-use Rattle.std.proofs.Common.{◌≡◌, ℕ, Bool, true, false, Option, Some, sym, ap, ◌∙◌}
+use Rattle.std.proofs.Common.{ℕ, false, Some, sym, ap, ◌∙◌}
 use Rattle.tr_types.specs.declared.kernel_call.Holder.{Holder}
 use Rattle.page_rights.proofs.ThreadLemmas.{one_more, no_more}
 use Rattle.page_rights.proofs.rows.least_against.Goals as goal

@@ -1,9 +1,8 @@
-use Rattle.std.proofs.Common.{◌≡◌, ◌<◌, ℕ, List, Option, Some, None, sym, ap, ◌∙◌, subst, get_or, length, arith}
+use Rattle.std.proofs.Common.{◌≡◌, ◌<◌, ℕ, List, Option, None, sym, ap, ◌∙◌, subst, get_or, length, arith}
 use Rattle.std.specs.Prelude.{IsSome}
 use Rattle.std.proofs.lemmas.List.{get_or_read}
-use Rattle.page_rights.specs.declared.mapping.Mapping.{Mapping}
 use Rattle.page_rights.specs.Lookup.{process_at, place_of}
-use Rattle.page_rights.proofs.TiedLemmas.{is_started, place_inside, mapping_is, is_sound}
+use Rattle.page_rights.proofs.TiedLemmas.{is_started, place_inside, mapping_is}
 use Rattle.page_rights.proofs.tables.Tables.mapping.Goals as goal
 
 pub process_of-process-requires : goal.process_of-process-requires

@@ -1,5 +1,5 @@
 use Rattle.page_rights.proofs.RegisterLemmas.{only_one_key, closed_to_all}
-use Rattle.page_rights.proofs.pkru.keys_law.Goals as goal
+use Rattle.page_rights.proofs.laws.register_law.Goals as goal
 
 pub returns-clause-one : goal.returns-clause-one
 returns-clause-one c = only_one_key

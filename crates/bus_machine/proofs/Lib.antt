@@ -1,0 +1,14 @@
+-- what the holders' rows say
+mod Holding
+-- who was started
+mod Started
+-- whose the pages are, after each change
+mod Owners
+-- what the tables are told, after each change
+mod Told
+-- numbers in a row
+mod Ranges
+-- what an access is answered
+mod Accesses
+-- what the machine answers
+mod Noted
