@@ -1,5 +1,5 @@
 -- A line that may stand is nowhere bad, and a text has one first bad place.
-use Rattle.std.proofs.Common.{◌≡◌, ◌≢◌, ◌⊎◌, inl, inr, ℕ, ◌+◌, ◌^◌, ◌<◌, ◌≤◌, true, false, List, [], ◌∷◌, map, filter, length, refl, ap, ◌∙◌, sym, subst, arith}
+use Rattle.std.proofs.Common.{◌≡◌, ◌≢◌, ◌⊎◌, inl, inr, ℕ, ◌+◌, ◌^◌, ◌<◌, ◌≤◌, true, false, List, [], ◌∷◌, map, filter, length, take, refl, ap, ◌∙◌, sym, subst, arith}
 use Rattle.std.proofs.lemmas.Bool.{cond-true, cond-false}
 use Rattle.std.specs.Fmt.{decimal}
 use Rattle.tr_types.specs.Fold.{Each}
@@ -7,7 +7,7 @@ use Rattle.tr_types.specs.declared.command.Command.{Command}
 use Rattle.tr_types.specs.declared.command.Command.TheVariants.{Create, Stat}
 use Rattle.tr_types.specs.Commands.{IsCommand}
 use Rattle.tr_script.specs.Grammar.{Declared, declared, nothing_declared, words_of, lines_of, is_kept, kept_lines, command_words, mode_text, line_words, MayStand, text_limit, IsScript}
-use Rattle.tr_script.specs.Places.{Slot, FirstWord, CommandWord, MayBe, slots_behind, IsBadAt, IsBadIn, IsBadBefore, IsEarlier, IsFirstOf, IsFirstBad}
+use Rattle.tr_script.specs.Places.{Slot, FirstWord, CommandWord, MayBe, slots_behind, IsBadAt, IsBadIn, IsBadBefore, IsEarlier, IsFirstOf, IsFirstBad, line_behind, column_behind}
 use Rattle.tr_script.specs.Reading.{Reads}
 use Rattle.tr_script.specs.declared.script.Line.{Line}
 use Rattle.tr_script.specs.declared.script.Line.TheVariants.{Mkfs, Process, Thread, Call, Do, Finish, Open, Stray}
@@ -88,6 +88,11 @@ one_place_in d named (bytes ∷ rest) number l c l2 c2 (inr (inr (kept, (line, w
     one_place_in (declared d line) (are_named_more d line named may) rest (number + 1) l c l2 c2 a
     (subst (λ (other : Line). IsBadIn (declared d other) rest (number + 1) l2 c2) same b)
 
+kept_not_nothing : (bytes : List ℕ) (rest : List (List ℕ)) → is_kept bytes ≡ true → map words_of (filter is_kept (bytes ∷ rest)) ≡ [] → ⊥
+kept_not_nothing bytes rest kept spelled =
+    let front = ap (map words_of) (cond-true (is_kept bytes) (bytes ∷ filter is_kept rest) (filter is_kept rest) kept) in
+    let no : words_of bytes ∷ map words_of (filter is_kept rest) ≡ [] = sym front ∙ spelled in cc
+
 -- Lines that are bad read as no lines, if at all.
 bad_reads_nothing : (d : Declared) → AreNamed d → (lines : List (List ℕ)) (number l c : ℕ) (all : List Line)
     → map words_of (filter is_kept lines) ≡ map line_words all → Each declared MayStand d all → IsBadIn d lines number l c → (d.begun ≡ false) × (all ≡ [])
@@ -96,15 +101,8 @@ bad_reads_nothing d named [] number l c (first ∷ more) spelled orderly bad = a
 bad_reads_nothing d named (bytes ∷ rest) number l c all spelled orderly (inl bad) =
     let passed = cond-false (is_kept bytes) (bytes ∷ filter is_kept rest) (filter is_kept rest) bad.0 in
     bad_reads_nothing d named rest (number + 1) l c all (sym (ap (map words_of) passed) ∙ spelled) orderly bad.1
-bad_reads_nothing d named (bytes ∷ rest) number l c [] spelled orderly (inr bad) = absurd (by bad)
-  where
-    kept_first : is_kept bytes ≡ true → ⊥
-    kept_first kept =
-        let front = ap (map words_of) (cond-true (is_kept bytes) (bytes ∷ filter is_kept rest) (filter is_kept rest) kept) in
-        let no : words_of bytes ∷ map words_of (filter is_kept rest) ≡ [] = sym front ∙ spelled in cc
-    by : _ → ⊥
-    by (inl bad) = kept_first bad.0
-    by (inr bad) = kept_first bad.0
+bad_reads_nothing d named (bytes ∷ rest) number l c [] spelled orderly (inr (inl bad)) = absurd (kept_not_nothing bytes rest bad.0 spelled)
+bad_reads_nothing d named (bytes ∷ rest) number l c [] spelled orderly (inr (inr bad)) = absurd (kept_not_nothing bytes rest bad.0 spelled)
 bad_reads_nothing d named (bytes ∷ rest) number l c (first ∷ more) spelled orderly (inr (inl bad)) =
     let front = ap (map words_of) (cond-true (is_kept bytes) (bytes ∷ filter is_kept rest) (filter is_kept rest) bad.0) in
     let both : words_of bytes ∷ map words_of (filter is_kept rest) ≡ line_words first ∷ map line_words more = sym front ∙ spelled in
@@ -152,4 +150,5 @@ pub one_first_bad : (text : List ℕ) (l c l2 c2 : ℕ) → IsFirstBad text l c 
 one_first_bad text l c l2 c2 (inl a) (inl b) = one_place text l c l2 c2 a.1 b.1
 one_first_bad text l c l2 c2 (inl a) (inr b) = absurd (let in_limit = a.0 in let over = b.0 in omega arith)
 one_first_bad text l c l2 c2 (inr a) (inl b) = absurd (let in_limit = b.0 in let over = a.0 in omega arith)
-one_first_bad text l c l2 c2 (inr a) (inr b) = one_first _ _ _ l c l2 c2 a.1 b.1
+one_first_bad text l c l2 c2 (inr a) (inr b) =
+    one_first (take (text_limit + 1) text) (line_behind 1 (take text_limit text)) (column_behind 1 (take text_limit text)) l c l2 c2 a.1 b.1
