@@ -1,7 +1,7 @@
 // Reads the text of a script, line by line and word by word.
 ghost use Rattle.std.specs.Prelude.{◌≡◌, ◌<◌, ◌≤◌, ◌+◌, ◌^◌, List, ◌∷◌, length, take, IfOk, IfErr};
 ghost use Rattle.tr_script.specs.Grammar.{lines_of, is_kept, nothing_declared, text_limit, IsScript};
-ghost use Rattle.tr_script.specs.Places.{IsBadIn, line_behind, column_behind, IsFirstOf, IsFirstBad};
+ghost use Rattle.tr_script.specs.Places.{IsBadIn, IsEarlier, line_behind, column_behind, IsFirstOf, IsFirstBad};
 ghost use Rattle.tr_script.specs.Reading.{OnBad, OnFault, OnBadLine, Reads, IsCountedFrom1};
 ghost use Rattle.tr_script.specs.declared.script.Line.{Line};
 
@@ -104,6 +104,14 @@ fn place_after(text: &[u8]) -> Place
     Place { line, column }
 }
 
+/// The earlier one of two places.
+fn earlier(place: Place, limit: Place) -> Place
+    ensures before { IsEarlier place.line place.column limit.line limit.column → result ≡ place }
+    ensures behind { (IsEarlier place.line place.column limit.line limit.column → ⊥) → result ≡ limit }
+{
+    place.min(limit)
+}
+
 /// The fault of a text that is over the limit by one byte: its first bad place, which is at most that byte's.
 fn fault_over_limit(alloc: Global, text: &[u8]) -> Fault
     requires { length text.now ≡ TEXT_LIMIT + 1 }
@@ -113,7 +121,7 @@ fn fault_over_limit(alloc: Global, text: &[u8]) -> Fault
     let limit = place_after(inside);
     match read_lines(alloc, text) {
         Ok(_) => Fault::Bad(limit),
-        Err(Fault::Bad(place)) => Fault::Bad(place.min(limit)),
+        Err(Fault::Bad(place)) => Fault::Bad(earlier(place, limit)),
         Err(Fault::NoMemory) => Fault::NoMemory,
     }
 }
