@@ -1,5 +1,5 @@
 -- What is bad behind a word that was taken, and words that name another.
-use Rattle.std.proofs.Common.{◌≡◌, ◌≢◌, inl, inr, ℕ, ◌+◌, ◌^◌, ◌<◌, ◌≤◌, List, [], ◌∷◌, length, map, Contains, zero, suc, Bool, true, false, not, ◌||◌, ◌==◌, nat_eq, ap, refl, Result, Ok, Err, ◌∙◌, sym, subst, arith, Option, Some, None}
+use Rattle.std.proofs.Common.{◌≡◌, ◌≢◌, inl, inr, ℕ, ◌+◌, ◌^◌, ◌<◌, List, [], ◌∷◌, map, Contains, zero, suc, Bool, true, false, not, ◌||◌, ◌==◌, nat_eq, ap, refl, Result, Ok, Err, ◌∙◌, sym, subst, arith, Option, Some, None}
 use Rattle.std.proofs.lemmas.Bool.{eqb-true, eq-eqb}
 use Rattle.std.proofs.lemmas.Fmt.{decimal_injective}
 use Rattle.std.specs.List.{list_any}

@@ -1,4 +1,4 @@
-use Rattle.std.proofs.Common.{arith, sym, ◌∙◌, ap}
+use Rattle.std.proofs.Common.{◌+◌, arith, sym, ◌∙◌, ap}
 use Rattle.tr_script.proofs.ReadingLemmas.{has_read_passed, has_read_kept, has_read_all, has_read_same}
 use Rattle.tr_script.proofs.reader.read_lines.Goals.{then-is_kept+in_ok-line+in_ok-add+in_ok-push, else-is_kept}
 use Rattle.tr_script.proofs.reader.read_lines.Goals as goal

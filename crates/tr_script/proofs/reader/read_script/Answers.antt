@@ -1,19 +1,12 @@
-use Rattle.std.proofs.Common.{arith, sym, ◌∙◌, ap}
-use Rattle.tr_script.proofs.reader.read_script.Goals.{then-text-le-TEXT_LIMIT, else-text-le-TEXT_LIMIT}
+use Rattle.tr_script.specs.Places.{IsFirstBad}
+use Rattle.tr_script.specs.declared.reader.place.Place.{Place}
+use Rattle.tr_script.proofs.PlaceLemmas.{first_bad_is_no_script, on_fault_at}
 use Rattle.tr_script.proofs.reader.read_script.Goals as goal
 
 pub returns-in-Err-Bad-clause-refused : goal.returns-in-Err-Bad-clause-refused
 returns-in-Err-Bad-clause-refused c = λ lines script.
-    let is = c.in-Err-Bad.is in
-    let fis = c.in-Err-Bad.field-0-is in
-    let lis = c.in-Err-Bad.line-is in
-    elim c.if-text-le-TEXT_LIMIT.branch [
-    | then-text-le-TEXT_LIMIT w ↦
-       let place = w.read_lines-read.ensures.place in
-       let ris = w.read-is in
-       ?
-    | else-text-le-TEXT_LIMIT w ↦
-       let place = w.fault_over_limit.ensures in
-       let ris = w.read-is in
-       ?
-    ]
+    let bad = on_fault_at (λ (place : Place). IsFirstBad c.args.text.now place.line place.column) c.in-Err-Bad.field-0 c.in-Err-Bad.field-0-0 c.in-Err-Bad.field-0-is c.in-Err-Bad.ensures.place in
+    first_bad_is_no_script c.args.text.now _ _ lines bad script
+
+pub returns-in-Err-Bad-clause-place : goal.returns-in-Err-Bad-clause-place
+returns-in-Err-Bad-clause-place c = on_fault_at (λ (place : Place). IsFirstBad c.args.text.now place.line place.column) c.in-Err-Bad.field-0 c.in-Err-Bad.field-0-0 c.in-Err-Bad.field-0-is c.in-Err-Bad.ensures.place

@@ -1,4 +1,4 @@
-use Rattle.std.proofs.Common.{[], ◌∷◌, refl, inl, inr, subst}
+use Rattle.std.proofs.Common.{[], refl, inl, inr, subst}
 use Rattle.tr_script.specs.Places.{CommandWord}
 use Rattle.tr_script.specs.Reading.{Takes, name_text}
 use Rattle.tr_script.specs.declared.reader.slots.Name.{Name}

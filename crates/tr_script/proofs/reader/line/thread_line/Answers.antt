@@ -1,4 +1,4 @@
-use Rattle.std.proofs.Common.{[], ◌∷◌, refl, inl, inr, subst}
+use Rattle.std.proofs.Common.{[], ◌∷◌, refl}
 use Rattle.tr_script.specs.Places.{KnownProcess, NewThread}
 use Rattle.tr_script.proofs.ReadingLemmas.{passed}
 use Rattle.tr_script.proofs.WordLemmas.{behind}

@@ -1,4 +1,4 @@
-use Rattle.std.proofs.Common.{◌≡◌, ◌∙◌, ap, sym, List, ℕ, true, ◌==◌}
+use Rattle.std.proofs.Common.{◌≡◌, ◌∙◌, ap, sym, ◌==◌}
 use Rattle.std.specs.List.{list_any}
 use Rattle.tr_script.proofs.WordLemmas.{found_among, among_found}
 use Rattle.tr_script.proofs.reader.seen.Seen.has_thread.Goals as goal

@@ -1,4 +1,4 @@
-use Rattle.std.proofs.Common.{Contains, arith, subst}
+use Rattle.std.proofs.Common.{arith, subst}
 use Rattle.std.proofs.lemmas.Bool.{iff_false}
 use Rattle.tr_script.specs.Grammar.{IsThreadOf}
 use Rattle.tr_script.proofs.WordLemmas.{one_name}

@@ -1,4 +1,4 @@
-use Rattle.std.proofs.Common.{Contains, arith, subst, sym}
+use Rattle.std.proofs.Common.{arith, subst, sym}
 use Rattle.tr_script.specs.Grammar.{IsThreadOf}
 use Rattle.tr_script.proofs.WordLemmas.{one_name}
 use Rattle.tr_script.proofs.reader.seen.Seen.new_thread.Goals as goal
