@@ -1,10 +1,10 @@
 -- Reading a text goes on line by line.
-use Rattle.std.proofs.Common.{◌≡◌, ◌≢◌, ℕ, ◌+◌, ◌^◌, ◌<◌, true, false, List, [], ◌∷◌, ◌++◌, map, filter, arith, refl, ap, ◌∙◌, sym, subst, append_assoc, append-nil, length, length-append, inl, inr, ◌⊎◌, ◌==◌, All, Contains, Result, Ok, Err}
+use Rattle.std.proofs.Common.{◌≡◌, ℕ, ◌+◌, ◌^◌, ◌<◌, true, false, List, [], ◌∷◌, ◌++◌, map, filter, arith, refl, ap, ◌∙◌, sym, subst, append_assoc, append-nil, length, length-append, take, bytes_eq, inl, inr, ◌⊎◌, ◌==◌, All, Contains, Result, Ok, Err, IsErrAnd}
 use Rattle.std.proofs.lemmas.Bool.{cond-true, cond-false, eqb-true}
 use Rattle.std.proofs.lemmas.List.Elements.{All-nil, All-push, All-map, All-contains}
+use Rattle.std.proofs.lemmas.Cmp.{nat_list_eq_equiv}
 use Rattle.std.proofs.lemmas.Fmt.{decimal_injective}
 use Rattle.std.specs.Fmt.{decimal}
-use Rattle.tr_types.specs.Fold.{Each}
 use Rattle.tr_types.specs.declared.command.Command.{Command}
 use Rattle.tr_types.specs.declared.command.Command.TheVariants.{Create, Stat}
 use Rattle.tr_script.specs.Grammar.{Declared, declared, nothing_declared, words_of, lines_of, is_kept, kept_lines, command_words, line_words, MayStand, IsThreadOf}
@@ -89,6 +89,17 @@ pub thread_is_low : (d : Declared) (thread : ℕ) → AreNamed d → Contains (m
 thread_is_low d thread named found =
     All-contains (λ n. n < 256) (map (λ t. t.0) d.threads) thread (All-map (λ n. n < 256) (λ (t : ℕ × ℕ). t.0) d.threads named.threads) found
 
+abbrev first_letters : List (List ℕ) → List ℕ
+first_letters [] = []
+first_letters (word ∷ words) = take 2 word
+
+-- lines that begin otherwise aren't spelled alike
+unlike : {A : Type 0} {a b : List (List ℕ)} → a ≡ b → bytes_eq (first_letters a) (first_letters b) ≡ false → A
+unlike {a = a} {b = b} spelled other =
+    let itself = nat_list_eq_equiv.refl (first_letters b) in
+    let both = subst (λ (words : List (List ℕ)). bytes_eq (first_letters words) (first_letters b) ≡ true) (sym spelled) itself in
+    absurd (let no : true ≡ false = sym both ∙ other in cc)
+
 same_thread : (d : Declared) (m n : ℕ) → AreNamed d → IsThreadOf d m → IsThreadOf d n → 116 ∷ decimal (m + 1) ≡ 116 ∷ decimal (n + 1) → m ≡ n
 same_thread d m n named found_m found_n same = same_name 116 m n (thread_is_low d m named found_m) (thread_is_low d n named found_n) same
 
@@ -139,62 +150,62 @@ same_line d named (Stray thread addr word) (Stray thread2 addr2 word2) may_a may
     let high_a = may_a.4 in let high_b = may_b.4 in
     let words_are = same_number word word2 (omega arith) (omega arith) digits2 in
     λ i. Stray (threads i) (addrs i) (words_are i)
-same_line d named (Mkfs m) (Process process2 cred2) may_a may_b same = cc
-same_line d named (Mkfs m) (Thread thread2 process2) may_a may_b same = cc
-same_line d named (Mkfs m) (Call thread2 command2) may_a may_b same = cc
-same_line d named (Mkfs m) (Do thread2 command2) may_a may_b same = cc
-same_line d named (Mkfs m) (Finish thread2) may_a may_b same = cc
-same_line d named (Mkfs m) (Open thread2) may_a may_b same = cc
-same_line d named (Mkfs m) (Stray thread2 addr2 word2) may_a may_b same = cc
-same_line d named (Process process cred) (Mkfs m2) may_a may_b same = cc
-same_line d named (Process process cred) (Thread thread2 process2) may_a may_b same = cc
-same_line d named (Process process cred) (Call thread2 command2) may_a may_b same = cc
-same_line d named (Process process cred) (Do thread2 command2) may_a may_b same = cc
-same_line d named (Process process cred) (Finish thread2) may_a may_b same = cc
-same_line d named (Process process cred) (Open thread2) may_a may_b same = cc
-same_line d named (Process process cred) (Stray thread2 addr2 word2) may_a may_b same = cc
-same_line d named (Thread thread process) (Mkfs m2) may_a may_b same = cc
-same_line d named (Thread thread process) (Process process2 cred2) may_a may_b same = cc
-same_line d named (Thread thread process) (Call thread2 command2) may_a may_b same = cc
-same_line d named (Thread thread process) (Do thread2 command2) may_a may_b same = cc
-same_line d named (Thread thread process) (Finish thread2) may_a may_b same = cc
-same_line d named (Thread thread process) (Open thread2) may_a may_b same = cc
-same_line d named (Thread thread process) (Stray thread2 addr2 word2) may_a may_b same = cc
-same_line d named (Call thread command) (Mkfs m2) may_a may_b same = cc
-same_line d named (Call thread command) (Process process2 cred2) may_a may_b same = cc
-same_line d named (Call thread command) (Thread thread2 process2) may_a may_b same = cc
-same_line d named (Call thread command) (Do thread2 command2) may_a may_b same = cc
-same_line d named (Call thread command) (Finish thread2) may_a may_b same = cc
-same_line d named (Call thread command) (Open thread2) may_a may_b same = cc
-same_line d named (Call thread command) (Stray thread2 addr2 word2) may_a may_b same = cc
-same_line d named (Do thread command) (Mkfs m2) may_a may_b same = cc
-same_line d named (Do thread command) (Process process2 cred2) may_a may_b same = cc
-same_line d named (Do thread command) (Thread thread2 process2) may_a may_b same = cc
-same_line d named (Do thread command) (Call thread2 command2) may_a may_b same = cc
-same_line d named (Do thread command) (Finish thread2) may_a may_b same = cc
-same_line d named (Do thread command) (Open thread2) may_a may_b same = cc
-same_line d named (Do thread command) (Stray thread2 addr2 word2) may_a may_b same = cc
-same_line d named (Finish thread) (Mkfs m2) may_a may_b same = cc
-same_line d named (Finish thread) (Process process2 cred2) may_a may_b same = cc
-same_line d named (Finish thread) (Thread thread2 process2) may_a may_b same = cc
-same_line d named (Finish thread) (Call thread2 command2) may_a may_b same = cc
-same_line d named (Finish thread) (Do thread2 command2) may_a may_b same = cc
-same_line d named (Finish thread) (Open thread2) may_a may_b same = cc
-same_line d named (Finish thread) (Stray thread2 addr2 word2) may_a may_b same = cc
-same_line d named (Open thread) (Mkfs m2) may_a may_b same = cc
-same_line d named (Open thread) (Process process2 cred2) may_a may_b same = cc
-same_line d named (Open thread) (Thread thread2 process2) may_a may_b same = cc
-same_line d named (Open thread) (Call thread2 command2) may_a may_b same = cc
-same_line d named (Open thread) (Do thread2 command2) may_a may_b same = cc
-same_line d named (Open thread) (Finish thread2) may_a may_b same = cc
-same_line d named (Open thread) (Stray thread2 addr2 word2) may_a may_b same = cc
-same_line d named (Stray thread addr word) (Mkfs m2) may_a may_b same = cc
-same_line d named (Stray thread addr word) (Process process2 cred2) may_a may_b same = cc
-same_line d named (Stray thread addr word) (Thread thread2 process2) may_a may_b same = cc
-same_line d named (Stray thread addr word) (Call thread2 command2) may_a may_b same = cc
-same_line d named (Stray thread addr word) (Do thread2 command2) may_a may_b same = cc
-same_line d named (Stray thread addr word) (Finish thread2) may_a may_b same = cc
-same_line d named (Stray thread addr word) (Open thread2) may_a may_b same = cc
+same_line d named (Mkfs m) (Process process2 cred2) may_a may_b same = unlike same refl
+same_line d named (Mkfs m) (Thread thread2 process2) may_a may_b same = unlike same refl
+same_line d named (Mkfs m) (Call thread2 command2) may_a may_b same = unlike same refl
+same_line d named (Mkfs m) (Do thread2 command2) may_a may_b same = unlike same refl
+same_line d named (Mkfs m) (Finish thread2) may_a may_b same = unlike same refl
+same_line d named (Mkfs m) (Open thread2) may_a may_b same = unlike same refl
+same_line d named (Mkfs m) (Stray thread2 addr2 word2) may_a may_b same = unlike same refl
+same_line d named (Process process cred) (Mkfs m2) may_a may_b same = unlike same refl
+same_line d named (Process process cred) (Thread thread2 process2) may_a may_b same = unlike same refl
+same_line d named (Process process cred) (Call thread2 command2) may_a may_b same = unlike same refl
+same_line d named (Process process cred) (Do thread2 command2) may_a may_b same = unlike same refl
+same_line d named (Process process cred) (Finish thread2) may_a may_b same = unlike same refl
+same_line d named (Process process cred) (Open thread2) may_a may_b same = unlike same refl
+same_line d named (Process process cred) (Stray thread2 addr2 word2) may_a may_b same = unlike same refl
+same_line d named (Thread thread process) (Mkfs m2) may_a may_b same = unlike same refl
+same_line d named (Thread thread process) (Process process2 cred2) may_a may_b same = unlike same refl
+same_line d named (Thread thread process) (Call thread2 command2) may_a may_b same = unlike same refl
+same_line d named (Thread thread process) (Do thread2 command2) may_a may_b same = unlike same refl
+same_line d named (Thread thread process) (Finish thread2) may_a may_b same = unlike same refl
+same_line d named (Thread thread process) (Open thread2) may_a may_b same = unlike same refl
+same_line d named (Thread thread process) (Stray thread2 addr2 word2) may_a may_b same = unlike same refl
+same_line d named (Call thread command) (Mkfs m2) may_a may_b same = unlike same refl
+same_line d named (Call thread command) (Process process2 cred2) may_a may_b same = unlike same refl
+same_line d named (Call thread command) (Thread thread2 process2) may_a may_b same = unlike same refl
+same_line d named (Call thread command) (Do thread2 command2) may_a may_b same = unlike same refl
+same_line d named (Call thread command) (Finish thread2) may_a may_b same = unlike same refl
+same_line d named (Call thread command) (Open thread2) may_a may_b same = unlike same refl
+same_line d named (Call thread command) (Stray thread2 addr2 word2) may_a may_b same = unlike same refl
+same_line d named (Do thread command) (Mkfs m2) may_a may_b same = unlike same refl
+same_line d named (Do thread command) (Process process2 cred2) may_a may_b same = unlike same refl
+same_line d named (Do thread command) (Thread thread2 process2) may_a may_b same = unlike same refl
+same_line d named (Do thread command) (Call thread2 command2) may_a may_b same = unlike same refl
+same_line d named (Do thread command) (Finish thread2) may_a may_b same = unlike same refl
+same_line d named (Do thread command) (Open thread2) may_a may_b same = unlike same refl
+same_line d named (Do thread command) (Stray thread2 addr2 word2) may_a may_b same = unlike same refl
+same_line d named (Finish thread) (Mkfs m2) may_a may_b same = unlike same refl
+same_line d named (Finish thread) (Process process2 cred2) may_a may_b same = unlike same refl
+same_line d named (Finish thread) (Thread thread2 process2) may_a may_b same = unlike same refl
+same_line d named (Finish thread) (Call thread2 command2) may_a may_b same = unlike same refl
+same_line d named (Finish thread) (Do thread2 command2) may_a may_b same = unlike same refl
+same_line d named (Finish thread) (Open thread2) may_a may_b same = unlike same refl
+same_line d named (Finish thread) (Stray thread2 addr2 word2) may_a may_b same = unlike same refl
+same_line d named (Open thread) (Mkfs m2) may_a may_b same = unlike same refl
+same_line d named (Open thread) (Process process2 cred2) may_a may_b same = unlike same refl
+same_line d named (Open thread) (Thread thread2 process2) may_a may_b same = unlike same refl
+same_line d named (Open thread) (Call thread2 command2) may_a may_b same = unlike same refl
+same_line d named (Open thread) (Do thread2 command2) may_a may_b same = unlike same refl
+same_line d named (Open thread) (Finish thread2) may_a may_b same = unlike same refl
+same_line d named (Open thread) (Stray thread2 addr2 word2) may_a may_b same = unlike same refl
+same_line d named (Stray thread addr word) (Mkfs m2) may_a may_b same = unlike same refl
+same_line d named (Stray thread addr word) (Process process2 cred2) may_a may_b same = unlike same refl
+same_line d named (Stray thread addr word) (Thread thread2 process2) may_a may_b same = unlike same refl
+same_line d named (Stray thread addr word) (Call thread2 command2) may_a may_b same = unlike same refl
+same_line d named (Stray thread addr word) (Do thread2 command2) may_a may_b same = unlike same refl
+same_line d named (Stray thread addr word) (Finish thread2) may_a may_b same = unlike same refl
+same_line d named (Stray thread addr word) (Open thread2) may_a may_b same = unlike same refl
 
 -- a text of no lines
 pub reads_nothing : (d : Declared) → Reads d [] []
@@ -277,10 +288,9 @@ has_read_none text rest seen lines number read empty none =
     by (inr is) = is
 
 -- a fault of one reading, passed on by another
-pub on_bad_passed : (S : Type 0) {T : Type 0} {P Q : Place → Type 0} (r : Result T Fault) (e y : Fault) → r ≡ Err y → y ≡ e
-    → ((place : Place) → P place → Q place) → OnBad {T = S} (Err e) P → OnBad r Q
-on_bad_passed S (Ok x) e y is same f p = tt
-on_bad_passed S (Err NoMemory) e y is same f p = tt
-on_bad_passed S (Err (Bad place)) (Bad other) y is same f p =
-    let places : place ≡ other = cc in f place (subst _ (sym places) p)
-on_bad_passed S (Err (Bad place)) NoMemory y is same f p = absurd (let no : Bad place ≡ NoMemory = cc in cc)
+pub passed : {T : Type 0} {P Q : Place → Type 0} (r : Result T Fault) (e : Fault) → IsErrAnd r (λ y. y ≡ e)
+    → ((place : Place) → P place → Q place) → OnBad {T = ℕ} (Err e) P → OnBad r Q
+passed (Ok x) e is f p = tt
+passed (Err NoMemory) e is f p = tt
+passed {P = P} (Err (Bad place)) (Bad other) is f p = let places : place ≡ other = cc in f place (subst P (sym places) p)
+passed (Err (Bad place)) NoMemory is f p = absurd (let no : Bad place ≡ NoMemory = is in cc)

@@ -1,6 +1,6 @@
 -- Which texts are scripts. A text is a script exactly where its kept lines are, one by one, the spellings of a list
 -- of lines that keeps to order and to what the lines above have declared.
-use Rattle.std.specs.Prelude.{◌≡◌, ◌≢◌, ◌⊎◌, ℕ, ◌+◌, ◌/◌, ◌%◌, ◌<◌, ◌≤◌, List, [], ◌∷◌, ◌++◌, length, map, filter, Contains, All, Bool, true, false, not, Option, Some, None, if◌then◌else◌, ◌==◌, codes}
+use Rattle.std.specs.Prelude.{◌≡◌, ◌≢◌, ℕ, ◌+◌, ◌/◌, ◌%◌, ◌<◌, ◌≤◌, List, [], ◌∷◌, ◌++◌, length, map, filter, Contains, Bool, true, false, not, Option, Some, None, if◌then◌else◌, ◌==◌, codes}
 use Rattle.std.specs.Fmt.{decimal}
 use Rattle.tr_types.specs.Fold.{Each}
 use Rattle.tr_types.specs.declared.command.Command.{Command}

@@ -1,6 +1,6 @@
 -- Which place of a text is the first at which no script goes on so. A line is read word by word against a table that
 -- says which words may stand at a kind of place, and which kinds of place are then still to come.
-use Rattle.std.specs.Prelude.{◌≡◌, ◌≢◌, ◌⊎◌, ℕ, ◌+◌, ◌-◌, ◌^◌, ◌<◌, ◌≤◌, List, [], ◌∷◌, ◌++◌, length, take, Contains, Bool, true, false, Some, None, if◌then◌else◌, ◌==◌, bytes_eq, codes}
+use Rattle.std.specs.Prelude.{◌≡◌, ◌≢◌, ◌⊎◌, ℕ, ◌+◌, ◌-◌, ◌<◌, ◌≤◌, List, [], ◌∷◌, ◌++◌, length, take, Contains, true, false, Some, None, if◌then◌else◌, ◌==◌, bytes_eq, codes}
 use Rattle.std.specs.Fmt.{decimal}
 use Rattle.tr_types.specs.Commands.{IsPath, IsPathOfOne}
 use Rattle.tr_script.specs.Grammar.{Declared, declared, nothing_declared, words_of, lines_of, is_kept, process_name, thread_name, mode_text, line_words, MayStand, IsThreadOf, IsScriptAddress, text_limit}
@@ -127,4 +127,4 @@ abbrev pub IsFirstBad : List ℕ → ℕ → ℕ → Type 0
 IsFirstBad text line column =
     ((length text ≤ text_limit) × IsBadIn nothing_declared (lines_of text) 1 line column)
     ⊎ ((text_limit < length text)
-        × IsFirstOf (take (text_limit + 1) text) (line_behind 1 (take text_limit text)) (column_behind 1 (take text_limit text)) line column)
+    × IsFirstOf (take (text_limit + 1) text) (line_behind 1 (take text_limit text)) (column_behind 1 (take text_limit text)) line column)

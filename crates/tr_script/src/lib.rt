@@ -6,7 +6,7 @@ mod script;
 mod status;
 mod text;
 
-pub use reader::{ScriptFault, read_script};
+pub use reader::{ScriptFault, place_law, read_script};
 pub use script::{Line, Script};
 pub use status::Status;
 pub use text::append_brief_text;

@@ -1,7 +1,7 @@
 // Reads the text of a script, line by line and word by word.
-ghost use Rattle.std.specs.Prelude.{◌≡◌, ◌<◌, ◌≤◌, ◌+◌, ◌^◌, List, ◌∷◌, length, take, IfOk, IfErr};
+ghost use Rattle.std.specs.Prelude.{◌≡◌, ℕ, ◌<◌, ◌≤◌, ◌+◌, ◌^◌, List, ◌∷◌, length, take, IfOk, IfErr};
 ghost use Rattle.tr_script.specs.Grammar.{lines_of, is_kept, nothing_declared, text_limit, IsScript};
-ghost use Rattle.tr_script.specs.Places.{IsBadIn, line_behind, column_behind, IsFirstOf, IsFirstBad};
+ghost use Rattle.tr_script.specs.Places.{IsBadIn, IsEarlier, line_behind, column_behind, IsFirstOf, IsFirstBad};
 ghost use Rattle.tr_script.specs.Reading.{OnBad, OnFault, OnBadLine, Reads, IsCountedFrom1};
 ghost use Rattle.tr_script.specs.declared.script.Line.{Line};
 
@@ -104,6 +104,14 @@ fn place_after(text: &[u8]) -> Place
     Place { line, column }
 }
 
+/// The earlier one of two places.
+fn earlier(place: Place, limit: Place) -> Place
+    ensures before { IsEarlier place.line place.column limit.line limit.column → result ≡ place }
+    ensures behind { (IsEarlier place.line place.column limit.line limit.column → ⊥) → result ≡ limit }
+{
+    place.min(limit)
+}
+
 /// The fault of a text that is over the limit by one byte: its first bad place, which is at most that byte's.
 fn fault_over_limit(alloc: Global, text: &[u8]) -> Fault
     requires { length text.now ≡ TEXT_LIMIT + 1 }
@@ -113,9 +121,21 @@ fn fault_over_limit(alloc: Global, text: &[u8]) -> Fault
     let limit = place_after(inside);
     match read_lines(alloc, text) {
         Ok(_) => Fault::Bad(limit),
-        Err(Fault::Bad(place)) => Fault::Bad(place.min(limit)),
+        Err(Fault::Bad(place)) => Fault::Bad(earlier(place, limit)),
         Err(Fault::NoMemory) => Fault::NoMemory,
     }
+}
+
+/// The lines of a text. Of a text that is over the limit, no more than the first byte past it is looked at.
+fn read_text(alloc: Global, text: &[u8]) -> Result<Vec<Line>, Fault>
+    ensures some { IfOk result (λ lines. 0 < length lines.items) }
+    ensures ok { IfOk result (λ lines. (length text.now ≤ text_limit) × Reads nothing_declared text.now lines.items) }
+    ensures place { OnBad result (λ place. IsFirstBad text.now place.line place.column) }
+{
+    if text.len() > TEXT_LIMIT {
+        return Err(fault_over_limit(alloc, &text[..=TEXT_LIMIT]));
+    }
+    read_lines(alloc, text)
 }
 
 /// Reads a script. Of a text that is over the limit, no more than the first byte past it is looked at.
@@ -129,17 +149,18 @@ pub fn read_script(alloc: Global, text: &[u8]) -> Result<Script, ScriptFault>
     ensures place { OnBadLine result (IsFirstBad text.now) }
     ensures counted_from_1 { IfErr result IsCountedFrom1 }
 {
-    let read = if text.len() <= TEXT_LIMIT {
-        read_lines(alloc, text)
-    } else {
-        Err(fault_over_limit(alloc, &text[..=TEXT_LIMIT]))
-    };
-    match read {
+    match read_text(alloc, text) {
         Ok(lines) => Ok(Script::new(lines)),
         Err(Fault::Bad(Place { line, column })) => Err(ScriptFault::BadLine { line, column }),
         Err(Fault::NoMemory) => Err(ScriptFault::NoMemory),
     }
 }
+
+/// A law of the definitions alone: a text that has a first bad place is no script, and it has one such place.
+pub fn place_law()
+    ensures refused { (text : List ℕ) (line column : ℕ) (lines : List Line) → IsFirstBad text line column → IsScript text lines → ⊥ }
+    ensures one { (text : List ℕ) (line column line2 column2 : ℕ) → IsFirstBad text line column → IsFirstBad text line2 column2 → (line ≡ line2) × (column ≡ column2) }
+{}
 
 #[cfg(test)]
 mod tests;

@@ -368,8 +368,43 @@ mod tests {
         Ok(())
     }
 
+    fn stray_line_of(alloc: Global, answer: Answer) -> Result<Vec<u8>, AllocError> {
+        let mut text = Vec::new(alloc);
+        let stray = Entry::Stray {
+            thread: 11,
+            addr: 159744,
+            word: 7,
+            answer,
+        };
+        append_brief_text(&mut text, &stray)?;
+        Ok(text)
+    }
+
     #[test]
-    fn only_replies_print(rt: HostRuntime) -> Result<(), Fail> {
+    fn stray_stores(rt: HostRuntime) -> Result<(), Fail> {
+        for (answer, line) in [
+            (Answer::Done, "t12 stray done\n"),
+            (
+                Answer::Fault(FaultKind::NotMapped),
+                "t12 stray fault unmapped\n",
+            ),
+            (
+                Answer::Fault(FaultKind::NotWritable),
+                "t12 stray fault readonly\n",
+            ),
+            (Answer::Fault(FaultKind::KeyDenied), "t12 stray fault key\n"),
+            (Answer::Word(7), ""),
+        ] {
+            assert_eq!(rt;
+                stray_line_of(rt.alloc(), answer)?.as_slice(),
+                line.as_bytes()
+            );
+        }
+        Ok(())
+    }
+
+    #[test]
+    fn only_replies_and_strays_print(rt: HostRuntime) -> Result<(), Fail> {
         let mut text = Vec::from_slice(rt.alloc(), b"before")?;
         append_brief_text(&mut text, &Entry::Mkfs(64))?;
         assert_eq!(rt; text.as_slice(), "before".as_bytes());

@@ -1,5 +1,6 @@
 // What the lines of a script so far have declared.
-ghost use Rattle.std.specs.Prelude.{◌≡◌};
+ghost use Rattle.std.specs.Prelude.{◌≡◌, ◌==◌};
+ghost use Rattle.std.specs.List.{list_any};
 ghost use Rattle.tr_script.specs.Grammar.{calling_behind};
 
 use super::spelling::{process_word, thread_word};
@@ -67,7 +68,7 @@ impl Seen {
     fn has_thread(&self, thread: u16) -> bool
         ensures { IsTrue result ↔ IsThreadOf self.now thread }
     {
-        self.threads.iter().any(|(other, _)| *other == thread)
+        is_among(&self.threads, thread)
     }
 
     /// The process that the word names, where it can still be declared.
@@ -149,4 +150,11 @@ fn calling_behind(thread: u16, calling: Option<u16>) -> Option<u16>
         Some(caller) if caller != thread => Some(caller),
         _ => None,
     }
+}
+
+/// Whether the thread is one of these, each of which stands with its process.
+fn is_among(threads: &[(u16, u8)], thread: u16) -> bool
+    ensures { result ≡ list_any (λ t. t.0 == thread) threads.now }
+{
+    threads.iter().any(|(other, _)| *other == thread)
 }

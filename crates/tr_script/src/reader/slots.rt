@@ -207,7 +207,7 @@ pub fn address(words: &mut Words) -> Result<u64, Fault>
 
 /// Takes any number that a word of the memory can hold.
 pub fn number(words: &mut Words) -> Result<u64, Fault>
-    ensures ok { IfOk result (λ number. Takes words.old (decimal number) words.new) }
+    ensures ok { IfOk result (λ number. Takes words.old (decimal number) words.new × (number ≤ 18446744073709551615)) }
     ensures bad { OnBad result (λ place. (d : Declared) → IsBadWord d Number words.old place) }
 {
     let word = words.word()?;
@@ -243,7 +243,7 @@ pub fn any_path<'a>(words: &mut Words<'a>) -> Result<&'a [u8], Fault>
 
 /// Takes the mode of a new file.
 pub fn file_mode(words: &mut Words) -> Result<u16, Fault>
-    ensures ok { IfOk result (λ mode. Takes words.old (mode_text mode) words.new × (mode ≡ 438)) }
+    ensures ok { IfOk result (λ mode. Takes words.old (mode_text 438) words.new × (mode ≡ 438)) }
     ensures bad { OnBad result (λ place. (d : Declared) → IsBadWord d FileMode words.old place) }
 {
     let word = words.word()?;

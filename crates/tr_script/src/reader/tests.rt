@@ -29,42 +29,54 @@ fn first_bad_word_is_named(rt: HostRuntime) {
         ("mkfs 064\n", 1, 6),
         ("mkfs 63", 1, 6),
         ("mkfs +64", 1, 6),
+        ("mkfs -64", 1, 6),
         ("mkfs 16385\n", 1, 6),
         ("mkfs 4294967360\n", 1, 6),
+        ("mkfs 18446744073709551680\n", 1, 6),
         ("Mkfs 64\n", 1, 1),
         (" mkfs 64\n", 1, 1),
         ("# a note\n\nmkfs 63\n", 3, 6),
         ("process p1 0 0\n", 1, 1),
+        ("# a note\nprocess p1 0 0\n", 2, 1),
+        ("step t1 1\n", 1, 1),
         ("mkfs 64\nmkfs 64\n", 2, 1),
-        ("mkfs 64\nthread t1 p1\n", 2, 1),
-        ("mkfs 64\ndo t1 stat /\n", 2, 1),
-        ("mkfs 64\nrecover\n", 2, 1),
+        ("mkfs 64\nproces p1 0 0\n", 2, 1),
+        ("mkfs 64\nthread t1 p1\n", 2, 11),
+        ("mkfs 64\ndo t1 stat /\n", 2, 4),
+        ("mkfs 64\nstray t1 0 0\n", 2, 7),
         ("mkfs 64\nprocess p0 0 0\n", 2, 9),
         ("mkfs 64\nprocess p65 0 0\n", 2, 9),
         ("mkfs 64\nprocess p01 0 0\n", 2, 9),
         ("mkfs 64\nprocess t1 0 0\n", 2, 9),
         ("mkfs 64\nprocess p1 5 5\n", 2, 12),
         ("mkfs 64\nprocess p1 0 5\n", 2, 14),
-        ("mkfs 64\nprocess p2 0\n", 2, 13),
         ("mkfs 64\nprocess p2 0 0 0\n", 2, 16),
-        ("mkfs 64\nprocess p1 0 0\nprocess p2 0 0\n", 3, 1),
-        ("mkfs 64\nprocess p1 0 0\nthread t257 p1\n", 3, 8),
         ("mkfs 64\nprocess p1 0 0\nthread t0 p1\n", 3, 8),
-        ("mkfs 64\nprocess p1 0 0\nthread t2 p2\n", 3, 11),
         ("mkfs 64\nprocess p1 0 0\nthread t2\n", 3, 10),
-        ("mkfs 64\nprocess p1 0 0\n\n# a note\ndo t1 stat /\n", 5, 1),
+        ("mkfs 64\nprocess p1 0 0\n\n# a note\ndo t1 stat /\n", 5, 4),
     ] {
         let place = bad_place(rt.alloc(), text.as_bytes());
         assert_eq!(rt; place, Some((line, column)), "{text:?}");
     }
 }
 
+/// The column at which the line is bad below an image, a process and a thread, and then these lines.
+fn bad_column(alloc: Global, above: &str, last: &str) -> Result<Option<u32>, AllocError> {
+    let text = format!(in alloc; "mkfs 64\nprocess p1 0 0\nthread t1 p1\n{above}{last}\n")?;
+    Ok(bad_place(alloc, text.as_bytes()).map(|(_, column)| column))
+}
+
 #[test]
-fn first_bad_word_below_three_lines_is_named(rt: HostRuntime) -> Result<(), AllocError> {
+fn bad_words_of_declarations_and_commands(rt: HostRuntime) -> Result<(), AllocError> {
     for (last, column) in [
-        ("process p1 0 0", 1),
-        ("thread t1 p1", 1),
-        ("thread t2 p1", 1),
+        ("process p1 0 0", 9),
+        ("process p65 0 0", 9),
+        ("process p0 0 0", 9),
+        ("process p2 4294967296 0", 12),
+        ("process p2 0", 13),
+        ("thread t1 p1", 8),
+        ("thread t257 p1", 8),
+        ("thread t2 p2", 11),
         ("do", 3),
         ("do t2 stat /", 4),
         ("do t1 ", 7),
@@ -85,9 +97,86 @@ fn first_bad_word_below_three_lines_is_named(rt: HostRuntime) -> Result<(), Allo
         ("do t1 create /f 607", 17),
         ("do t1 create /f 666 1", 21),
     ] {
-        let text = format!(in rt.alloc(); "mkfs 64\nprocess p1 0 0\nthread t1 p1\n{last}")?;
-        let place = bad_place(rt.alloc(), text.as_bytes());
-        assert_eq!(rt; place, Some((4, column)), "{last:?}");
+        assert_eq!(rt; bad_column(rt.alloc(), "", last)?, Some(column), "{last:?}");
+    }
+    Ok(())
+}
+
+#[test]
+fn bad_words_of_calls_and_strays(rt: HostRuntime) -> Result<(), AllocError> {
+    for (last, column) in [
+        ("call t1", 8),
+        ("call t2 stat /", 6),
+        ("finish", 7),
+        ("finish t2", 8),
+        ("finish t1 1", 11),
+        ("open p1", 6),
+        ("stray t2 0 0", 7),
+        ("stray t1", 9),
+        ("stray t1 4 0", 10),
+        ("stray t1 08 0", 10),
+        ("stray t1 67108864 0", 10),
+        ("stray t1 8", 11),
+        ("stray t1 8 18446744073709551616", 12),
+        ("stray t1 8 00", 12),
+        ("stray t1 8 0 0", 14),
+    ] {
+        assert_eq!(rt; bad_column(rt.alloc(), "", last)?, Some(column), "{last:?}");
+    }
+    Ok(())
+}
+
+#[test]
+fn lines_that_are_not_built_are_bad_at_once(rt: HostRuntime) -> Result<(), AllocError> {
+    for last in [
+        "mkfs 64",
+        "tick 1",
+        "tick  1",
+        "step t1 1",
+        "hold t1",
+        "before t1",
+        "past t1",
+        "corrupt p1",
+        "kill p1",
+        "wild t1 fence",
+        "crash none",
+        "crashin t1 0 none",
+        "recover",
+        "rstep 1",
+        "coffers",
+    ] {
+        assert_eq!(rt; bad_column(rt.alloc(), "", last)?, Some(1), "{last:?}");
+    }
+    Ok(())
+}
+
+#[test]
+fn within_a_call_no_other_is_given(rt: HostRuntime) -> Result<(), AllocError> {
+    for (above, last, column) in [
+        ("call t1 stat /\n", "call t1 stat /", Some(1)),
+        ("call t1 stat /\n", "do t1 stat /", Some(1)),
+        ("call t1 stat /\n", "stray t1 0 0", Some(7)),
+        ("call t1 stat /\nopen t1\n", "do t1 stat /", Some(1)),
+        (
+            "thread t2 p1\ncall t1 stat /\nfinish t2\n",
+            "do t2 stat /",
+            Some(1),
+        ),
+        (
+            "thread t2 p1\ncall t1 stat /\nfinish t2\n",
+            "stray t1 0 0",
+            Some(7),
+        ),
+        ("thread t2 p1\ncall t1 stat /\n", "stray t2 0 0", None),
+        ("call t1 stat /\n", "process p2 0 0", None),
+        ("call t1 stat /\nfinish t1\n", "stray t1 0 0", None),
+        ("call t1 stat /\nfinish t1\n", "do t1 stat /", None),
+    ] {
+        assert_eq!(rt;
+            bad_column(rt.alloc(), above, last)?,
+            column,
+            "{above:?} {last:?}"
+        );
     }
     Ok(())
 }
@@ -102,6 +191,14 @@ fn good_scripts_are_read(rt: HostRuntime) -> Result<(), ScriptFault> {
         (
             "mkfs 64\nprocess p1 0 0\n\nthread t1 p1\n# a note\ndo t1 stat /...\n",
             4,
+        ),
+        (
+            "mkfs 64\nprocess p1 0 0\nthread t1 p1\nthread t2 p1\ncall t2 create /f 666\nopen t2\nstray t1 159744 7\nfinish t2\n",
+            8,
+        ),
+        (
+            "mkfs 64\nprocess p1 0 0\nprocess p2 0 0\nthread t1 p2\nthread t2 p1\ncall t2 create /f 666\nopen t2\nstray t1 159744 7\nfinish t2\n",
+            9,
         ),
     ] {
         let script = read_script(rt.alloc(), text.as_bytes())?;
@@ -140,6 +237,30 @@ fn words_become_numbers_and_paths(rt: HostRuntime) -> Result<(), ScriptFault> {
     Ok(())
 }
 
+#[test]
+fn lines_of_a_call_and_a_stray_store(rt: HostRuntime) -> Result<(), ScriptFault> {
+    let text =
+        "mkfs 64\nprocess p1 0 0\nthread t1 p1\nthread t9 p1\ncall t9 stat /b\nopen t9\nstray t1 67108856 18446744073709551615\nfinish t9\n";
+    let script = read_script(rt.alloc(), text.as_bytes())?;
+    match &script.lines()[4..] {
+        [
+            Line::Call {
+                thread: 8,
+                command: Command::Stat { path },
+            },
+            Line::Open { thread: 8 },
+            Line::Stray {
+                thread: 0,
+                addr: 67108856,
+                word: 18446744073709551615,
+            },
+            Line::Finish { thread: 8 },
+        ] => assert_eq!(rt; path.as_bytes(), b"/b".as_slice()),
+        _ => assert!(rt; false, "other lines"),
+    }
+    Ok(())
+}
+
 /// A text of a first line, and a second that fills it up to so many bytes.
 fn filled(alloc: Global, first: &str, length: usize) -> Result<Vec<u8>, AllocError> {
     let mut text = Vec::from_slice(alloc, first.as_bytes())?;
@@ -158,5 +279,12 @@ fn first_byte_past_the_limit_is_bad(rt: HostRuntime) -> Result<(), AllocError> {
     assert_eq!(rt; bad_place(rt.alloc(), &longer), Some((2, 4_194_297)));
     let earlier = filled(rt.alloc(), "mkfs 63\n", 4_194_305)?;
     assert_eq!(rt; bad_place(rt.alloc(), &earlier), Some((1, 6)));
+    Ok(())
+}
+
+#[test]
+fn no_later_place_than_the_limit_is_bad(rt: HostRuntime) -> Result<(), AllocError> {
+    let note = filled(rt.alloc(), "", 4_194_305)?;
+    assert_eq!(rt; bad_place(rt.alloc(), &note), Some((1, 4_194_305)));
     Ok(())
 }

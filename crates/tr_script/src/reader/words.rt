@@ -41,13 +41,11 @@ impl<'a> Model for Words<'a> {
 
     ghost Value = { Left };
 
-    ghost view = {
-        λ w. record {
-          words = words_left (option_copied w.rest);
-          column = next_column (option_copied w.rest) w.place.column;
-          line = w.place.line;
-        }
-    };
+    ghost view = { λ w. record {
+      words = words_left (option_copied w.rest);
+      column = next_column (option_copied w.rest) w.place.column;
+      line = w.place.line;
+    } };
 
     ghost invariant = { λ w. w.place.column + length_left (option_copied w.rest) < 2 ^ 32 };
 }
