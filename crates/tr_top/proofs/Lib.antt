@@ -2,10 +2,16 @@
 mod NewImageLemmas
 -- how a script's place passes lines
 mod PlaceLemmas
--- how calls stand while entries come
-mod StandLemmas
 -- a run with one more entry
 mod RunLemmas
+-- one more entry of a run, with the machine after it
+mod EntryLemmas
+-- what each line of a script leaves
+mod LineLemmas
+-- how calls stand while entries come
+mod StandLemmas
+-- the lines that give one entry
+mod LineSteps
 -- how a run ends
 mod Endings
 -- when a call must come to its end

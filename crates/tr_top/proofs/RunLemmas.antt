@@ -116,6 +116,11 @@ pub goes_added : (r : Result (Unit {0}) Stop) (lines : List Line) (old new : Lis
 goes_added (Ok v) lines old new e taken now before after was run added later = goes_ok v lines old new e taken now before after run added.0 added.1 later
 goes_added (Err stop) lines old new e taken now before after was run added later = goes_err stop lines old new e taken now before after was run added later
 
+-- what holds where the entry was added
+pub on_added : {X : Type 0} (r : Result (Unit {0}) Stop) (old new : List Entry) (e : Entry) (taken now : Option (List ℕ)) (before after : ℕ) → Added r e old new taken now before after → (new ≡ old ++ e ∷ [] → X) → OnOk r X
+on_added (Ok v) old new e taken now before after added holds = holds added.0
+on_added (Err stop) old new e taken now before after added holds = tt
+
 -- two parts of a run, one behind the other
 pub goes_then : {T : Type 0} (r : Result T Stop) (lines : List Line) (old middle new : List Entry) (taken mid now : Option (List ℕ)) (before between after : ℕ) → Goes {T = Unit {0}} lines old middle taken mid before between (Ok tt) → Goes lines middle new mid now between after r → Goes lines old new taken now before after r
 goes_then r lines old middle new taken mid now before between after one two = record {
