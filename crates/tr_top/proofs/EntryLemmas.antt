@@ -2,14 +2,14 @@
 use Rattle.std.proofs.Common.{◌≡◌, ℕ, ◌≤◌, ◌<◌, List, [], ◌∷◌, ◌++◌, length, refl, sym, ap, subst, ◌∙◌, arith, Option, Ok, Err, false, OnOk}
 use Rattle.std.specs.declared.result.Result.{Result}
 use Rattle.tr_types.specs.KernelView.{pages_of}
-use Rattle.tr_types.specs.Machine.{Bus, Answers, IsThread, bus_after, bus_moved}
+use Rattle.tr_types.specs.Machine.{Bus, Answers, IsThread, HasRegisters, bus_after, bus_moved}
 use Rattle.tr_types.specs.World.{World, stepped, MayCome}
 use Rattle.tr_types.specs.declared.action.Action.{Action}
 use Rattle.tr_types.specs.declared.action.Answer.{Answer}
 use Rattle.tr_types.specs.declared.entry.Entry.{Entry}
 use Rattle.tr_types.specs.declared.entry.Entry.TheVariants as entry
 use Rattle.tr_types.specs.declared.entry.Mark.{Mark}
-use Rattle.tr_types.proofs.MachineLemmas.{pages_moved}
+use Rattle.tr_types.proofs.MachineLemmas.{pages_moved, registers_moved}
 use Rattle.bus_machine.specs.View.{MachineView}
 use Rattle.bus_machine.specs.Calls.{with_bus}
 use Rattle.tr_script.specs.declared.script.Line.{Line}
@@ -59,6 +59,7 @@ pub adds_tied : (r : Result (Unit {0}) Stop) (lines : List Line) (m next : Machi
 adds_tied r lines m next old new e taken now before after tied room adds added =
     tied_added r lines m next old new e taken now before after tied (adds_run lines m next old e tied room adds) added adds.bus adds.works
     (ap (λ (b : Bus). pages_of b.words) (adds.bus ∙ moved_bus (world_after lines old) e) ∙ pages_moved (world_after lines old).machine.bus e ∙ ap (λ (b : Bus). pages_of b.words) (sym tied.bus))
+    (subst HasRegisters (sym (adds.bus ∙ moved_bus (world_after lines old) e)) (registers_moved (world_after lines old).machine e adds.comes (subst HasRegisters tied.bus tied.registers)))
 
 -- An entry that leaves the machine.
 pub still_adds : (lines : List Line) (m : MachineView) (trace : List Entry) (e : Entry) → IsTied lines m trace → MayFollow (place_after lines trace) e → MayCome (world_after lines trace) e → IsSound (world_after lines trace) e → (stepped (world_after lines trace) e).machine.bus ≡ (world_after lines trace).machine.bus → Adds lines m trace e

@@ -12,6 +12,8 @@ mod LineLemmas
 mod StandLemmas
 -- the lines that give one entry
 mod LineSteps
+-- a turn of a call
+mod TurnSteps
 -- how a run ends
 mod Endings
 -- when a call must come to its end

@@ -4,10 +4,10 @@ use Rattle.std.proofs.lemmas.Bool.{cases_eq}
 use Rattle.zo_layout.specs.Layout.{page_at, root_page}
 use Rattle.tr_types.specs.KernelView.{pages_of}
 use Rattle.tr_types.specs.Denotes.{dir_of}
-use Rattle.tr_types.specs.Machine.{Bus, Answers, IsThread}
+use Rattle.tr_types.specs.Machine.{Bus, Answers, HasRegisters}
 use Rattle.tr_types.specs.Marks.{mark_of}
 use Rattle.tr_types.specs.Commands.{IsCommand}
-use Rattle.tr_types.specs.World.{World, Idle, Runs, NotYet, stepped, MayCome}
+use Rattle.tr_types.specs.World.{World, Idle, Runs, NotYet, MayBegin, stepped}
 use Rattle.tr_types.specs.declared.action.Action.{Action}
 use Rattle.tr_types.specs.declared.action.Answer.{Answer}
 use Rattle.tr_types.specs.declared.command.Command.{Command}
@@ -141,7 +141,7 @@ module _ (w : World) (p : Place) (trace : List Entry) (call : RunningCall) (next
 
 -- A call that begins.
 module _ (lines : List Line) (m : MachineView) (trace : List Entry) (thread : ℕ) (command : Command) (session : Session) (tied : IsTied lines m trace) (k : IsQuiet (world_after lines trace) (place_after lines trace)) (given : IsCallGiven lines trace thread command)
-    (thread_is : session.thread ≡ thread) (command_is : session.command.now ≡ command) (begins : (first : Answer) (w : World) → BeginsAt thread command w → SessionKnows session first w) (small : thread < length (world_after lines trace).machine.bus.pkrus) where
+    (thread_is : session.thread ≡ thread) (command_is : session.command.now ≡ command) (begins : (first : Answer) (w : World) → BeginsAt thread command w → SessionKnows session first w) where
   abbrev w : World
   w = world_after lines trace
 
@@ -150,6 +150,11 @@ module _ (lines : List Line) (m : MachineView) (trace : List Entry) (thread : �
 
   abbrev called : Entry
   called = entry.Call thread command
+
+  small : thread < length w.machine.bus.pkrus
+  small =
+      let registers = subst HasRegisters tied.bus tied.registers in
+      subst (λ (n : ℕ). thread < n) (sym registers.count) (registers.small thread given.lives)
 
   pub call_stands : StandsAs (stepped w called) (followed p called) (trace ++ called ∷ []) (Some (record { session = session; asked = length trace }))
   call_stands = record {
@@ -169,4 +174,4 @@ module _ (lines : List Line) (m : MachineView) (trace : List Entry) (thread : �
       same_call t c = λ i. record { thread = sym t i; command = sym c i }
 
   pub call_sound : IsSound w called
-  call_sound = stands_sound w called (followed p called) (trace ++ called ∷ []) (Some (record { session = session; asked = length trace })) (begin_legal (w.phases thread) (k.aside thread).idle) tt refl call_stands
+  call_sound = stands_sound w called (followed p called) (trace ++ called ∷ []) (Some (record { session = session; asked = length trace })) (subst MayBegin (sym (k.aside thread).idle) tt) tt refl call_stands

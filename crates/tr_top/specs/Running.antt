@@ -7,7 +7,7 @@ use Rattle.tr_types.specs.Fold.{state_after}
 use Rattle.tr_types.specs.KernelView.{pages_of}
 use Rattle.zo_layout.specs.Layout.{page_at, root_page}
 use Rattle.tr_types.specs.Commands.{IsCommand}
-use Rattle.tr_types.specs.Machine.{Bus, Machine, IsThread, bus_over, pkru_of}
+use Rattle.tr_types.specs.Machine.{Machine, IsThread, HasRegisters, bus_over, pkru_of}
 use Rattle.tr_types.specs.Rights.{closed_pkru}
 use Rattle.tr_types.specs.Traces.{answer_at}
 use Rattle.tr_types.specs.Windows.{LeavesWindows}
@@ -76,6 +76,7 @@ pub record IsTied (lines : List Line) (m : MachineView) (trace : List Entry) : T
   pub least : 64 ≤ pages_made lines
   pub most : pages_made lines ≤ 16384
   pub size : pages_of m.bus.words ≡ pages_made lines
+  pub registers : HasRegisters m.bus
 
 -- a thread that has no call, and whose window is closed
 pub record IsAside (w : World) (thread : ℕ) : Type 0 where

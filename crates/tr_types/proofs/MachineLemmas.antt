@@ -1,13 +1,16 @@
 -- Laws of the machine: what an entry leaves of the length of the memory, of its words and of the registers.
-use Rattle.std.proofs.Common.{◌≡◌, ◌≢◌, ◌⊎◌, ℕ, ◌/◌, List, [], ◌∷◌, length, Contains, fold, suc, refl, sym, ap, ◌∙◌, inl, inr, arith, get_or-set_other}
-use Rattle.std.proofs.lemmas.Bool.{cases_eq}
+use Rattle.std.proofs.Common.{◌≡◌, ◌≢◌, ◌⊎◌, ℕ, ◌+◌, ◌/◌, ◌<◌, ◌≤◌, List, [], ◌∷◌, ◌++◌, length, map, Contains, fold, slice_index_or, zero, suc, refl, sym, ap, subst, ◌∙◌, inl, inr, arith, get_or-set_other}
+use Rattle.std.proofs.lemmas.List.{length-set, get_or_past}
+use Rattle.std.proofs.lemmas.List.FromFn.{length-map-range_with_len, get_or-map-range_with_len}
+use Rattle.std.proofs.lemmas.Bool.{cases_eq, cases_lt}
+use Rattle.std.specs.List.{range_with_len}
 use Rattle.pm_words.specs.Word.{Word, settled}
 use Rattle.pm_words.specs.Memory.{store_at}
 use Rattle.pm_words.proofs.WordLemmas.{length_store_at, other_place}
 use Rattle.zo_layout.specs.Layout.{owner_word}
 use Rattle.tr_types.specs.KernelView.{pages_of}
 use Rattle.tr_types.specs.Denotes.{value}
-use Rattle.tr_types.specs.Machine.{Bus, acted, called, bus_after, bus_moved, pkru_of}
+use Rattle.tr_types.specs.Machine.{Machine, Bus, IsThread, HasRegisters, Fits, acted, called, registered, bus_after, bus_moved, bus_over, with_thread, closed_pkrus, pkru_of}
 use Rattle.tr_types.specs.Rights.{closed_pkru}
 use Rattle.tr_types.specs.World.{World, MayCome}
 use Rattle.tr_types.specs.Windows.{IsConfined}
@@ -219,3 +222,74 @@ pages_moved bus (entry.Lost path) = refl
 pages_moved bus (entry.Skip line why) = refl
 pages_moved bus (entry.Quarantine path) = refl
 pages_moved bus (entry.Coffers list) = refl
+
+-- Each thread that was started has a register.
+length_registered : (thread : ℕ) (action : Action) (answer : Answer) (pkrus : List ℕ) → length (registered thread action answer pkrus) ≡ length pkrus
+length_registered thread (Load addr) answer pkrus = refl
+length_registered thread (Store addr word) answer pkrus = refl
+length_registered thread (Cas addr old new) answer pkrus = refl
+length_registered thread (Flush addr) answer pkrus = refl
+length_registered thread Fence answer pkrus = refl
+length_registered thread (Pkru pkru) (WordIs x) pkrus = refl
+length_registered thread (Pkru pkru) Done pkrus = length-set pkrus thread pkru
+length_registered thread (Pkru pkru) (Fault kind) pkrus = refl
+length_registered thread (Pkru pkru) (Kern answer) pkrus = refl
+length_registered thread (Kernel call) answer pkrus = refl
+
+-- a thread is the last one started, or was started before
+one_of : (threads : List (ℕ × ℕ)) (thread process t : ℕ) → Contains (map (λ (x : ℕ × ℕ). x.0) (threads ++ (thread, process) ∷ [])) t → (thread ≡ t) ⊎ Contains (map (λ (x : ℕ × ℕ). x.0) threads) t
+one_of [] thread process t (zero, lt, at) = inl at
+one_of [] thread process t (suc k, lt, at) = absurd (omega arith)
+one_of (x ∷ threads) thread process t (zero, lt, at) = inr (zero, omega arith, at)
+one_of (x ∷ threads) thread process t (suc k, lt, at) = elim (one_of threads thread process t (k, omega arith, at)) [
+      inl new ↦ inl new
+      | inr (j, l, a) ↦ inr (suc j, omega arith, a)
+    ]
+
+with_thread_small : (bus : Bus) (thread process : ℕ) → thread < 256 → HasRegisters bus → (t : ℕ) → IsThread (with_thread thread process bus) t → t < 256
+with_thread_small bus thread process lt has t lives = elim (one_of bus.threads thread process t lives) [
+      inl new ↦ subst (λ (n : ℕ). n < 256) new lt
+      | inr before ↦ has.small t before
+    ]
+
+pub registers_moved : (m : Machine) (e : Entry) → Fits m e → HasRegisters m.bus → HasRegisters (bus_moved m.bus e)
+registers_moved m (entry.Act thread now mark action answer) fits has = record { count = length_registered thread action answer m.bus.pkrus ∙ has.count; small = has.small }
+registers_moved m (entry.Stray thread addr word answer) fits has = record { count = has.count; small = has.small }
+registers_moved m (entry.Process process cred) fits has = record { count = has.count; small = has.small }
+registers_moved m (entry.Thread thread process) fits has = record { count = has.count; small = with_thread_small m.bus thread process fits.0 has }
+registers_moved m (entry.Mkfs pages) fits has = has
+registers_moved m (entry.Tick n) fits has = has
+registers_moved m (entry.Call thread command) fits has = has
+registers_moved m (entry.Reply thread reply) fits has = has
+registers_moved m (entry.Wild thread now action answer) fits has = has
+registers_moved m (entry.Corrupt process) fits has = has
+registers_moved m (entry.Kill process) fits has = has
+registers_moved m (entry.Crash pick) fits has = has
+registers_moved m (entry.CrashIn thread now call k pick) fits has = has
+registers_moved m (entry.Recovery action) fits has = has
+registers_moved m (entry.Recovered ready quarantined) fits has = has
+registers_moved m (entry.Lost path) fits has = has
+registers_moved m (entry.Skip line why) fits has = has
+registers_moved m (entry.Quarantine path) fits has = has
+registers_moved m (entry.Coffers list) fits has = has
+
+closed_count : length closed_pkrus ≡ 256
+unfolding closed_pkrus
+closed_count = length-map-range_with_len (λ _. closed_pkru) 0 256
+
+pub registers_first : (image : List ℕ) → HasRegisters (bus_over image)
+registers_first image = record { count = closed_count; small = λ t among. nobody t among }
+  where
+    nobody : (t : ℕ) → Contains [] t → t < 256
+    nobody t (k, lt, at) = absurd (omega arith)
+
+-- before any thread has opened a key, all registers are closed
+pub closed_first : (t : ℕ) → slice_index_or closed_pkrus t closed_pkru ≡ closed_pkru
+unfolding closed_pkrus
+closed_first t = elim (cases_lt t 256) [
+      inl less ↦ get_or-map-range_with_len (λ _. closed_pkru) 0 256 t t closed_pkru less (omega arith)
+      | inr more ↦ past (map (λ _. closed_pkru) (range_with_len 0 256)) t (omega (arith, more, length-map-range_with_len (λ (_ : ℕ). closed_pkru) 0 256))
+    ]
+  where
+    past : (l : List ℕ) (i : ℕ) → length l ≤ i → slice_index_or l i closed_pkru ≡ closed_pkru
+    past l i le = get_or_past l i closed_pkru le

@@ -225,6 +225,11 @@ with_thread thread process bus = record { words = bus.words; processes = bus.pro
 abbrev pub IsThread : Bus → ℕ → Type 0
 IsThread bus thread = Contains (map (λ t. t.0) bus.threads) thread
 
+-- each thread that was started has a register
+pub record HasRegisters (bus : Bus) : Type 0 where
+  pub count : length bus.pkrus ≡ 256
+  pub small : (t : ℕ) → IsThread bus t → t < 256
+
 -- the entry may come at this machine
 abbrev pub Fits : Machine → Entry → Type 0
 -- the first entry alone, over the new image of that many pages
