@@ -49,6 +49,9 @@ by_kernel P bus thread call p (Kern answer) a = p answer a
 by_done : (P : Answer → Type 0) (answer : Answer) → answer ≡ Done → P Done → P answer
 by_done P answer is p = subst P (sym is) p
 
+no_key : (key : ℕ) → None ≡ Some key → ⊥
+no_key key clash = cc
+
 -- What may be answered to a map where nobody stands against it and the first key is free, and to an unmap of what is held.
 module _ (P : KernAnswer → Type 0) (bus : Bus) (thread : ℕ) (nobody : (other : ℕ) → IsLeastOf (those_against thread 1 false bus.holders) other → ⊥) (key : key_for bus.threads bus.holders thread 1 ≡ Some 1) (p : (m : Mapped) → MapAnswers bus thread false (kern.Mapped m) → P (kern.Mapped m)) where
   by_mapped : (r : KernAnswer) → MapAnswers bus thread false r → P r
@@ -63,7 +66,7 @@ module _ (P : KernAnswer → Type 0) (bus : Bus) (thread : ℕ) (nobody : (other
   by_mapped (kern.Denied r other len) a = absurd a
   by_mapped (kern.Quarantined other len) a = absurd a
   by_mapped (kern.InUse user other len) a = absurd (nobody user a.0)
-  by_mapped (kern.NoKey other len) a = let clash : None ≡ Some 1 = sym a.1 ∙ key in cc
+  by_mapped (kern.NoKey other len) a = absurd (no_key 1 (sym a.1 ∙ key))
   by_mapped (kern.NotYours page) a = absurd a
   by_mapped (kern.GuardFailed addr word) a = absurd a
   by_mapped (kern.LinkDiffers addr word) a = absurd a
