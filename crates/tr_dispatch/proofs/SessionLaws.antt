@@ -1,6 +1,6 @@
 -- What the knowledge of a session implies: the words denote the tree, the windows are as they must be, and it stays
 -- where what the session sees stays.
-use Rattle.std.proofs.Common.{◌≡◌, ◌≢◌, ◌⊎◌, inl, inr, ℕ, ◌<◌, List, [], ◌∷◌, length, map, take, true, false, Contains, Option, Some, None, refl, ap, sym, subst, ◌∙◌}
+use Rattle.std.proofs.Common.{◌≡◌, ◌≢◌, ◌⊎◌, inl, inr, ℕ, ◌<◌, List, [], ◌∷◌, length, map, take, false, Contains, Option, Some, refl, ap, sym, subst, ◌∙◌}
 use Rattle.std.proofs.lemmas.Bool.{cases_eq}
 use Rattle.std.proofs.lemmas.List.{map-append}
 use Rattle.std.proofs.lemmas.List.Elements.{Contains-append_left}
@@ -11,7 +11,7 @@ use Rattle.tr_types.specs.Rights.{closed_pkru, only_pkru, may_read, may_write}
 use Rattle.tr_types.specs.Tree.{Member}
 use Rattle.tr_types.specs.Denotes.{Denotes, dir_of}
 use Rattle.tr_types.specs.Commands.{IsCommand}
-use Rattle.tr_types.specs.World.{World, Phase, Idle, Runs, Committed, MayReply}
+use Rattle.tr_types.specs.World.{World, Phase, NotYet, Idle, Runs, Committed, MayReply}
 use Rattle.tr_types.specs.Windows.{IsKey, IsOpen, IsReading, IsWindowed}
 use Rattle.tr_types.specs.declared.action.Answer.{Answer}
 use Rattle.tr_types.specs.declared.action.Answer.TheVariants.{Word as WordIs, Done, Fault, Kern}
@@ -39,7 +39,7 @@ use Rattle.tr_dispatch.specs.declared.session.Session.{Session}
 use Rattle.tr_dispatch.specs.declared.session.Stage.{Stage}
 use Rattle.tr_dispatch.specs.declared.session.Stage.TheVariants as stage
 use Rattle.tr_dispatch.specs.Sessions.{Stands, WorksFor, IsPhaseOf, row_of, open_pkru, writes, SessionStageKnows, SessionKnows, IsGrounded}
-use Rattle.tr_dispatch.proofs.Register.{closed_reads, closed_writes, only_first, only_loads}
+use Rattle.tr_dispatch.proofs.Register.{shut, shut_stores, only_first, only_loads}
 
 -- The words denote the tree at each stage of a call.
 
@@ -119,9 +119,9 @@ module _ (thread : ℕ) (command : Command) (answer : Answer) (bus : Bus) (tree 
 
   -- the call isn't idle
   not_idle : (s : Stage) → SessionStageKnows thread command s answer bus tree phase consulted → phase ≢ Idle
-  not_idle stage.Begin k idle = let clash : Idle ≡ Runs command false None = sym idle ∙ k.2 in cc
-  not_idle stage.Finding k idle = let clash : Idle ≡ Runs command false None = sym idle ∙ k.2 in cc
-  not_idle stage.Mapping k idle = let clash : Idle ≡ Runs command false None = sym idle ∙ k.2 in cc
+  not_idle stage.Begin k idle = let clash : Idle ≡ Runs command false false NotYet = sym idle ∙ k.2 in cc
+  not_idle stage.Finding k idle = let clash : Idle ≡ Runs command false false NotYet = sym idle ∙ k.2 in cc
+  not_idle stage.Mapping k idle = let clash : Idle ≡ Runs command false false NotYet = sym idle ∙ k.2 in cc
   not_idle (stage.Working call) k idle = subst (IsPhaseOf command) idle k.3
   not_idle (stage.Closing reply) k idle = subst (λ p. MayReply tree p reply) idle k.2
   not_idle (stage.Ending reply) k idle = subst (λ p. MayReply tree p reply) idle k.2
@@ -166,28 +166,19 @@ module _ (thread : ℕ) (command : Command) (answer : Answer) (bus : Bus) (tree 
 -- a call that only reads is one of a command that stores nothing
 reads_only : (command : Command) (phase : Phase) → IsPhaseOf command phase → IsReading phase → writes command ≡ false
 reads_only command Idle of reading = absurd of
-reads_only command (Runs (Create path mode) drained refused) of reading = absurd reading
-reads_only command (Runs (Stat path) drained refused) of reading = ap writes (sym of)
+reads_only command (Runs (Create path mode) loaded drained asked) of reading = absurd reading
+reads_only command (Runs (Stat path) loaded drained asked) of reading = ap writes (sym of)
 reads_only command (Committed reply) of reading = absurd reading
 
 -- The words denote the tree all along a session.
 pub knows_denotes : (s : Session) (a : Answer) (w : World) → SessionKnows s a w → Denotes w.machine.bus.words w.tree
 knows_denotes s a w k = stage_denotes s.thread s.command.now a w.machine.bus w.tree (w.phases s.thread) (w.consulted s.thread) s.stage k.0.valid k.1
 
--- a closed register opens no key
-shut : (bus : Bus) (thread key : ℕ) → pkru_of bus thread ≡ closed_pkru → IsOpen bus thread key → ⊥
-shut bus thread key closed opened =
-    let clash : false ≡ true = sym (closed_reads key opened.0) ∙ ap (λ (p : ℕ). may_read p key) (sym closed) ∙ opened.1 in
-    cc
-
-shut_stores : (bus : Bus) (thread key : ℕ) → pkru_of bus thread ≡ closed_pkru → IsKey key → may_write (pkru_of bus thread) key ≡ false
-shut_stores bus thread key closed is = ap (λ (p : ℕ). may_write p key) closed ∙ closed_writes key is
-
 -- The windows are right where nobody holds a coffer and all registers are closed.
 pub bare_windowed : (w : World) → w.machine.bus.holders ≡ [] → ((u : ℕ) → pkru_of w.machine.bus u ≡ closed_pkru) → IsWindowed w
 bare_windowed w none closed = record {
   one = λ thread key other opened _. absurd (shut w.machine.bus thread key (closed thread) opened);
-  closed = λ thread key _ opened. shut w.machine.bus thread key (closed thread) opened;
+  closed = λ thread _. closed thread;
   unmapped = λ thread row _ among _. contains_none row (subst (λ (hs : List Holder). Contains hs row) none among);
   consulted = λ thread key opened. absurd (shut w.machine.bus thread key (closed thread) opened);
   reading = λ thread key _ is. shut_stores w.machine.bus thread key (closed thread) is;
@@ -227,10 +218,15 @@ module _ (s : Session) (a : Answer) (w : World) (k : SessionKnows s a w) (others
       let loads = reads_only s.command.now (w.phases s.thread) in_window.phase_of (subst (λ (t : ℕ). IsReading (w.phases t)) same reading) in
       ap (λ (p : ℕ). may_write p key) (ap (pkru_of w.machine.bus) same ∙ in_window.register ∙ ap (only_pkru 1) loads) ∙ only_loads key is
 
+  -- an idle thread is another one
+  closed_idle : (u : ℕ) → w.phases u ≡ Idle → (u ≡ s.thread) ⊎ (u ≢ s.thread) → pkru_of w.machine.bus u ≡ closed_pkru
+  closed_idle u idle (inl same) = absurd (active (ap w.phases (sym same) ∙ idle))
+  closed_idle u idle (inr other) = (others u other).1
+
   pub knows_windowed : IsWindowed w
   knows_windowed = record {
     one = λ u key other opened also. (open_is u key opened).2 ∙ sym (open_is u other also).2;
-    closed = λ u key idle opened. active (ap w.phases (sym (open_is u key opened).0) ∙ idle);
+    closed = λ u idle. closed_idle u idle (cases_eq u s.thread);
     unmapped = λ u row idle among is. active (ap w.phases (sym (rows row among) ∙ is) ∙ idle);
     consulted = λ u key opened.
         let at = open_is u key opened in (
