@@ -5,10 +5,10 @@ use Rattle.pm_words.specs.Word.{Word}
 use Rattle.zo_layout.specs.Layout.{page_at}
 use Rattle.tr_types.specs.Machine.{Bus, Answers, IsGiven, MapAnswers, UnmapAnswers, root_mapped, found_at}
 use Rattle.tr_types.specs.Rights.{closed_pkru, only_pkru, key_for, those_against, with_row, without_row, is_row_of, holds_itself, IsLeastOf}
-use Rattle.tr_types.specs.Commands.{IsCommand, consulted_path, right_needed}
+use Rattle.tr_types.specs.Commands.{IsPath, IsCommand, consulted_path, right_needed}
 use Rattle.tr_types.specs.Marks.{mark_of, pkru_mark}
 use Rattle.tr_types.specs.Tree.{Member}
-use Rattle.tr_types.specs.World.{World, Phase, Idle, Runs, Committed, MayAct, MayReply, told, pool_of, consulted_after}
+use Rattle.tr_types.specs.World.{World, Phase, NotYet, Idle, Runs, Committed, MayAct, MayReply, told, pool_of, consulted_after}
 use Rattle.tr_types.specs.declared.action.Action.{Action}
 use Rattle.tr_types.specs.declared.action.Action.TheVariants.{Pkru, Kernel}
 use Rattle.tr_types.specs.declared.action.Answer.{Answer}
@@ -37,7 +37,8 @@ use Rattle.tr_dispatch.specs.declared.session.Next.TheVariants as next
 use Rattle.tr_dispatch.specs.declared.session.Stage.TheVariants as stage
 use Rattle.tr_dispatch.specs.Sessions.{writes, right_of, row_of, open_pkru, IsPhaseOf, WorksFor, KnowsAt, SessionGoes, NextFrom}
 use Rattle.tr_dispatch.proofs.Permits.{permitted}
-use Rattle.tr_dispatch.proofs.Worlds.{knows_after, register_set, told_pkru, told_unmap, phase_of_after, control_stays, dir_stays, holders_stay, registers_stay, consulted_stays, is_built, maps_none, spares}
+use Rattle.tr_dispatch.proofs.Worlds.{knows_after, register_set, told_pkru, told_unmap, phase_of_after, control_stays, dir_stays, holders_stay, registers_stay, consulted_stays, is_built, maps_none, finds_none, spares}
+use Rattle.tr_dispatch.proofs.Register.{shut}
 
 -- only the kernel answers a call of the kernel, and a register is written
 by_kernel : (P : Answer → Type 0) (bus : Bus) (thread : ℕ) (call : Kcall) → ((answer : KernAnswer) → Answers bus thread (Kernel call) (Kern answer) → P (Kern answer)) → (answer : Answer) → Answers bus thread (Kernel call) answer → P answer
@@ -48,6 +49,9 @@ by_kernel P bus thread call p (Kern answer) a = p answer a
 
 by_done : (P : Answer → Type 0) (answer : Answer) → answer ≡ Done → P Done → P answer
 by_done P answer is p = subst P (sym is) p
+
+no_key : (key : ℕ) → None ≡ Some key → ⊥
+no_key key clash = cc
 
 -- What may be answered to a map where nobody stands against it and the first key is free, and to an unmap of what is held.
 module _ (P : KernAnswer → Type 0) (bus : Bus) (thread : ℕ) (nobody : (other : ℕ) → IsLeastOf (those_against thread 1 false bus.holders) other → ⊥) (key : key_for bus.threads bus.holders thread 1 ≡ Some 1) (p : (m : Mapped) → MapAnswers bus thread false (kern.Mapped m) → P (kern.Mapped m)) where
@@ -63,7 +67,7 @@ module _ (P : KernAnswer → Type 0) (bus : Bus) (thread : ℕ) (nobody : (other
   by_mapped (kern.Denied r other len) a = absurd a
   by_mapped (kern.Quarantined other len) a = absurd a
   by_mapped (kern.InUse user other len) a = absurd (nobody user a.0)
-  by_mapped (kern.NoKey other len) a = let clash : None ≡ Some 1 = sym a.1 ∙ key in cc
+  by_mapped (kern.NoKey other len) a = absurd (no_key 1 (sym a.1 ∙ key))
   by_mapped (kern.NotYours page) a = absurd a
   by_mapped (kern.GuardFailed addr word) a = absurd a
   by_mapped (kern.LinkDiffers addr word) a = absurd a
@@ -100,12 +104,21 @@ module _ (P : KernAnswer → Type 0) (bus : Bus) (thread : ℕ) (holds : holds_i
   by_unmapped kern.BadCount a = absurd a
   by_unmapped kern.NoMemory a = absurd a
 
+-- that of a command is a path
+consults_path : (command : Command) (path : List ℕ) → IsCommand command → path ≡ consulted_path command → IsPath path
+consults_path command path valid is = subst IsPath (sym is) (by command valid)
+  where
+    by : (c : Command) → IsCommand c → IsPath (consulted_path c)
+    by (Create name mode) given = inl refl
+    by (Stat name) given = given
+
 -- The first look: the coffer of the path that the command consults.
 pub find_gives : (thread : ℕ) (command : Command) (answer : Answer) (path : List ℕ) → path ≡ consulted_path command → NextFrom thread command stage.Begin answer (next.Act Plain (Kernel (kcall.Find path None)) stage.Finding)
 find_gives thread command answer path is w (sits, (bare, grounded, phase)) = record {
   marked = refl;
-  built = refl;
-  goes = by_kernel _ w.machine.bus thread (kcall.Find path None) (λ found a. subst (λ r. SessionGoes (KnowsAt thread command stage.Finding) thread Plain (Kernel (kcall.Find path None)) w (Kern r)) (sym (a ∙ ap (λ (p : List ℕ). kern.Found (found_at p) None) is)) goes);
+  built = (consults_path command path sits.valid is, refl);
+  shut = λ _ key opened. shut w.machine.bus thread key bare.register opened;
+  goes = by_kernel _ w.machine.bus thread (kcall.Find path None) (λ found a. subst (λ r. SessionGoes (KnowsAt thread command stage.Finding) thread Plain (Kernel (kcall.Find path None)) w (Kern r)) (sym (a.1 ∙ ap (λ (p : List ℕ). kern.Found (found_at p) None) is)) goes);
 }
   where
     goes : SessionGoes (KnowsAt thread command stage.Finding) thread Plain (Kernel (kcall.Find path None)) w (Kern (kern.Found (found_at (consulted_path command)) None))
@@ -133,7 +146,7 @@ needed (Stat path) = refl
 module _ (thread : ℕ) (command : Command) (answer : Answer) (path : List ℕ) (right : Right) (is : path ≡ consulted_path command) (right_is : right ≡ right_of command) (w : World) (k : KnowsAt thread command stage.Finding answer w) where
   map_goes : SessionGoes (KnowsAt thread command stage.Mapping) thread Plain (Kernel (kcall.Map path right false)) w (Kern (kern.Mapped (root_mapped w.machine.bus.words 1)))
   map_goes = record {
-    legal = (subst (λ p. MayAct w.tree p (Kernel (kcall.Map path right false))) (sym k.1.2) (ap (λ (r : Right). r.0) right_is ∙ needed command, refl), tt, k.1.3);
+    legal = (subst (λ p. MayAct w.tree p (Kernel (kcall.Map path right false))) (sym k.1.2) (is, ap (λ (r : Right). r.0) right_is ∙ needed command, refl), tt, k.1.3);
     denotes = ground_denotes k.1.1.0 _ _ k.1.1.1;
     knows = knows_after thread command w Plain (Kernel (kcall.Map path right false)) (Kern (kern.Mapped (root_mapped w.machine.bus.words 1))) stage.Mapping k.0 (
       record {
@@ -163,12 +176,13 @@ module _ (thread : ℕ) (command : Command) (answer : Answer) (path : List ℕ) 
 
   map_answered : (answer : Answer) → Answers w.machine.bus thread (Kernel (kcall.Map path right false)) answer → SessionGoes (KnowsAt thread command stage.Mapping) thread Plain (Kernel (kcall.Map path right false)) w answer
   map_answered = by_kernel (SessionGoes (KnowsAt thread command stage.Mapping) thread Plain (Kernel (kcall.Map path right false)) w) w.machine.bus thread (kcall.Map path right false)
-      (λ r a. by_mapped (λ r. SessionGoes (KnowsAt thread command stage.Mapping) thread Plain (Kernel (kcall.Map path right false)) w (Kern r)) w.machine.bus thread nobody key_is mapped_goes r a.1)
+      (λ r a. by_mapped (λ r. SessionGoes (KnowsAt thread command stage.Mapping) thread Plain (Kernel (kcall.Map path right false)) w (Kern r)) w.machine.bus thread nobody key_is mapped_goes r a.2)
 
 pub map_gives : (thread : ℕ) (command : Command) (answer : Answer) (path : List ℕ) (right : Right) → path ≡ consulted_path command → right ≡ right_of command → NextFrom thread command stage.Finding answer (next.Act Plain (Kernel (kcall.Map path right false)) stage.Mapping)
 map_gives thread command answer path right is right_is w k = record {
   marked = refl;
-  built = subst IsGiven (sym right_is) (given command);
+  built = (consults_path command path k.0.valid is, subst IsGiven (sym right_is) (given command));
+  shut = λ _. tt;
   goes = map_answered thread command answer path right is right_is w k;
 }
 
@@ -201,7 +215,7 @@ module _ (thread : ℕ) (command : Command) (answer : Answer) (m : Mapped) (call
   ground : Ground call.coffer w.machine.bus.words w.tree
   ground = let g = k.1.1.1 in record { roles = g.roles; files = g.files; frees = g.frees; laid = g.laid; tree_is = g.tree_is; control = works.control; dir = works.dir }
 
-  phase_is : told (pool_of w.machine.bus.words) (w.phases thread) (Pkru pkru) Done ≡ Runs command false None
+  phase_is : told (pool_of w.machine.bus.words) (w.phases thread) (Pkru pkru) Done ≡ Runs command false false NotYet
   phase_is = told_pkru (pool_of w.machine.bus.words) pkru (w.phases thread) ∙ k.1.2
 
   open_goes : SessionGoes (KnowsAt thread command (stage.Working call)) thread Open (Pkru pkru) w Done
@@ -222,6 +236,7 @@ pub open_gives : (thread : ℕ) (command : Command) (answer : Answer) (m : Mappe
 open_gives thread command answer m call pkru answer_is begins pkru_is w k = record {
   marked = open_mark command ∙ sym (ap pkru_mark (opens thread command answer m call pkru answer_is begins pkru_is w k));
   built = tt;
+  shut = λ _. tt;
   goes = λ a is. by_done (SessionGoes (KnowsAt thread command (stage.Working call)) thread Open (Pkru pkru) w) a is (open_goes thread command answer m call pkru answer_is begins pkru_is w k);
 }
 
@@ -269,13 +284,14 @@ pub act_gives : (thread : ℕ) (command : Command) (answer : Answer) (old new : 
 act_gives thread command answer old new mark action coffer same of steps w k = record {
   marked = of.1 ∙ (λ i. mark_of (k.1.1.dir i) (k.1.1.command_is i) action);
   built = is_built command w.machine.bus.words action (reached thread command answer old new mark action coffer same of steps w k);
+  shut = λ a. finds_none command w thread mark action a (reached thread command answer old new mark action coffer same of steps w k);
   goes = act_goes thread command answer old new mark action coffer same of steps w k;
 }
 
 -- The window is closed.
 may_write_register : (command : Command) (tree : List Member) (pkru : ℕ) (phase : Phase) → IsPhaseOf command phase → MayAct tree phase (Pkru pkru)
 may_write_register command tree pkru Idle is = absurd is
-may_write_register command tree pkru (Runs running drained refused) is = tt
+may_write_register command tree pkru (Runs running loaded drained asked) is = tt
 may_write_register command tree pkru (Committed reply) is = tt
 
 module _ (thread : ℕ) (command : Command) (answer : Answer) (old new : CallRun) (reply : Reply) (pkru : ℕ) (pkru_is : pkru ≡ closed_pkru) (steps : StepsFrom old answer new (call_step.Over reply)) (w : World) (k : KnowsAt thread command (stage.Working old) answer w) where
@@ -299,14 +315,15 @@ pub close_gives : (thread : ℕ) (command : Command) (answer : Answer) (old new 
 close_gives thread command answer old new reply pkru pkru_is steps w k = record {
   marked = sym (ap pkru_mark pkru_is);
   built = tt;
+  shut = λ _. tt;
   goes = λ a is. by_done (SessionGoes (KnowsAt thread command (stage.Closing reply)) thread Close (Pkru pkru) w) a is (close_goes thread command answer old new reply pkru pkru_is steps w k);
 }
 
 -- The coffer is unmapped.
 may_unmap : (tree : List Member) (phase : Phase) (reply : Reply) → MayReply tree phase reply → MayAct tree phase (Kernel (kcall.Unmap 1))
 may_unmap tree Idle reply may = absurd may
-may_unmap tree (Runs running drained refused) reply may = tt
-may_unmap tree (Committed told) reply may = tt
+may_unmap tree (Runs running loaded drained asked) reply may = tt
+may_unmap tree (Committed _) reply may = tt
 
 module _ (thread : ℕ) (command : Command) (answer : Answer) (reply : Reply) (w : World) (k : KnowsAt thread command (stage.Closing reply) answer w) where
   own_row : is_row_of thread 1 (row_of thread command) ≡ true
@@ -337,5 +354,6 @@ pub unmap_gives : (thread : ℕ) (command : Command) (answer : Answer) (reply : 
 unmap_gives thread command answer reply w k = record {
   marked = refl;
   built = tt;
+  shut = λ _. tt;
   goes = unmap_answered thread command answer reply w k;
 }

@@ -2,8 +2,9 @@
 use Rattle.std.proofs.Common.{◌≡◌, ℕ, ◌+◌, ◌*◌, ◌-◌, ◌%◌, ◌<◌, ◌≤◌, ◌^◌, Bool, true, false, refl, ap, sym, subst, ◌∙◌, ◌⊎◌, inl, inr, arith, eqb}
 use Rattle.std.proofs.lemmas.Bool.{cases_lt, eqb-true, agree_below, agree_below_at}
 use Rattle.std.proofs.lemmas.Nat.{pow_below}
+use Rattle.tr_types.specs.Machine.{Bus, pkru_of}
 use Rattle.tr_types.specs.Rights.{may_read, may_write, closed_pkru, only_pkru}
-use Rattle.tr_types.specs.Windows.{IsKey}
+use Rattle.tr_types.specs.Windows.{IsKey, IsOpen}
 
 -- the bit of a key lies in the value of a thread that starts
 pub access_bit_is_low : (key : ℕ) → key ≤ 15 → 2 ^ (2 * key) ≤ 1073741824
@@ -31,6 +32,15 @@ closed_reads = by_table (may_read closed_pkru) (λ _. false) refl
 
 pub closed_writes : (key : ℕ) → IsKey key → may_write closed_pkru key ≡ false
 closed_writes = by_table (may_write closed_pkru) (λ _. false) refl
+
+-- a closed register opens no key, and none for stores
+pub shut : (bus : Bus) (thread key : ℕ) → pkru_of bus thread ≡ closed_pkru → IsOpen bus thread key → ⊥
+shut bus thread key closed opened =
+    let clash : false ≡ true = sym (closed_reads key opened.0) ∙ ap (λ (p : ℕ). may_read p key) (sym closed) ∙ opened.1 in
+    cc
+
+pub shut_stores : (bus : Bus) (thread key : ℕ) → pkru_of bus thread ≡ closed_pkru → IsKey key → may_write (pkru_of bus thread) key ≡ false
+shut_stores bus thread key closed is = ap (λ (p : ℕ). may_write p key) closed ∙ closed_writes key is
 
 -- the window has the first key open alone
 only_reads : (writable : Bool) (key : ℕ) → IsKey key → may_read (only_pkru 1 writable) key ≡ eqb key 1

@@ -1,20 +1,23 @@
 -- What the knowledge of a session implies: the words denote the tree, the windows are as they must be, and it stays
 -- where what the session sees stays.
-use Rattle.std.proofs.Common.{◌≡◌, ◌≢◌, ◌⊎◌, inl, inr, ℕ, ◌<◌, List, [], ◌∷◌, length, map, take, true, false, Contains, Option, Some, None, refl, ap, sym, subst, ◌∙◌}
+use Rattle.std.proofs.Common.{◌≡◌, ◌≢◌, ◌⊎◌, inl, inr, ℕ, ◌<◌, ◌≤◌, ◌/◌, List, [], ◌∷◌, length, map, take, Bool, true, false, cond, Contains, Option, Some, None, refl, ap, sym, subst, ◌∙◌, arith}
 use Rattle.std.proofs.lemmas.Bool.{cases_eq}
 use Rattle.std.proofs.lemmas.List.{map-append}
 use Rattle.std.proofs.lemmas.List.Elements.{Contains-append_left}
 use Rattle.pm_words.specs.Word.{Word}
 use Rattle.zo_layout.specs.Layout.{bucket_head, bucket_of}
-use Rattle.tr_types.specs.Machine.{Bus, IsThread, pkru_of, root_mapped, with_process, with_thread}
-use Rattle.tr_types.specs.Rights.{closed_pkru, only_pkru, may_read, may_write}
+use Rattle.tr_types.specs.Machine.{Bus, IsThread, IsStored, is_word, store_refusal, pkru_of, root_mapped, with_process, with_thread}
+use Rattle.tr_types.specs.KernelView.{owner_of}
+use Rattle.tr_types.specs.Rights.{closed_pkru, only_pkru, may_read, may_write, holds_beside, key_in, store_fault_by, store_fault}
 use Rattle.tr_types.specs.Tree.{Member}
 use Rattle.tr_types.specs.Denotes.{Denotes, dir_of}
 use Rattle.tr_types.specs.Commands.{IsCommand}
-use Rattle.tr_types.specs.World.{World, Phase, Idle, Runs, Committed, MayReply}
+use Rattle.tr_types.specs.World.{World, Phase, NotYet, Idle, Runs, Committed, MayReply}
 use Rattle.tr_types.specs.Windows.{IsKey, IsOpen, IsReading, IsWindowed}
 use Rattle.tr_types.specs.declared.action.Answer.{Answer}
 use Rattle.tr_types.specs.declared.action.Answer.TheVariants.{Word as WordIs, Done, Fault, Kern}
+use Rattle.tr_types.specs.declared.action.FaultKind.{FaultKind}
+use Rattle.tr_types.specs.declared.action.FaultKind.TheVariants.{NotMapped, NotWritable, KeyDenied}
 use Rattle.tr_types.specs.declared.command.Command.{Command}
 use Rattle.tr_types.specs.declared.command.Command.TheVariants.{Create, Stat}
 use Rattle.tr_types.specs.declared.kernel_call.Holder.{Holder}
@@ -33,13 +36,13 @@ use Rattle.zo_ops.specs.Laid.{stored_all}
 use Rattle.zo_ops.specs.Knows.{StageKnows, CallKnows, Prepares, DrawnKnows, DrawingKnows, PlacingKnows, TellingKnows, name_of}
 use Rattle.zo_ops.proofs.DenoteLaws.{built_denotes}
 use Rattle.zo_ops.proofs.LoadSteps.{ground_denotes}
-use Rattle.zo_ops.proofs.Members.{contains_here, contains_cases, contains_none}
+use Rattle.zo_ops.proofs.Members.{contains_here, contains_there, contains_cases, contains_none}
 use Rattle.zo_ops.proofs.SpotLaws.{PlanKeeps, spot_keeps}
 use Rattle.tr_dispatch.specs.declared.session.Session.{Session}
 use Rattle.tr_dispatch.specs.declared.session.Stage.{Stage}
 use Rattle.tr_dispatch.specs.declared.session.Stage.TheVariants as stage
 use Rattle.tr_dispatch.specs.Sessions.{Stands, WorksFor, IsPhaseOf, row_of, open_pkru, writes, SessionStageKnows, SessionKnows, IsGrounded}
-use Rattle.tr_dispatch.proofs.Register.{closed_reads, closed_writes, only_first, only_loads}
+use Rattle.tr_dispatch.proofs.Register.{closed_writes, shut, shut_stores, only_first, only_loads}
 
 -- The words denote the tree at each stage of a call.
 
@@ -119,32 +122,32 @@ module _ (thread : ℕ) (command : Command) (answer : Answer) (bus : Bus) (tree 
 
   -- the call isn't idle
   not_idle : (s : Stage) → SessionStageKnows thread command s answer bus tree phase consulted → phase ≢ Idle
-  not_idle stage.Begin k idle = let clash : Idle ≡ Runs command false None = sym idle ∙ k.2 in cc
-  not_idle stage.Finding k idle = let clash : Idle ≡ Runs command false None = sym idle ∙ k.2 in cc
-  not_idle stage.Mapping k idle = let clash : Idle ≡ Runs command false None = sym idle ∙ k.2 in cc
+  not_idle stage.Begin k idle = let clash : Idle ≡ Runs command false false NotYet = sym idle ∙ k.2 in cc
+  not_idle stage.Finding k idle = let clash : Idle ≡ Runs command false false NotYet = sym idle ∙ k.2 in cc
+  not_idle stage.Mapping k idle = let clash : Idle ≡ Runs command false false NotYet = sym idle ∙ k.2 in cc
   not_idle (stage.Working call) k idle = subst (IsPhaseOf command) idle k.3
   not_idle (stage.Closing reply) k idle = subst (λ p. MayReply tree p reply) idle k.2
   not_idle (stage.Ending reply) k idle = subst (λ p. MayReply tree p reply) idle k.2
   not_idle stage.Over k idle = absurd k
 
-  -- each row of the holders is the thread's
-  no_row : bus.holders ≡ [] → (row : Holder) → Contains bus.holders row → row.thread ≡ thread
-  no_row none row among = absurd (contains_none row (subst (λ (hs : List Holder). Contains hs row) none among))
+  -- each row of the holders is the thread's, of the coffer that its command consults
+  none_row : bus.holders ≡ [] → (row : Holder) → Contains bus.holders row → row_of thread command ≡ row
+  none_row none row among = absurd (contains_none row (subst (λ (hs : List Holder). Contains hs row) none among))
 
-  one_row : bus.holders ≡ row_of thread command ∷ [] → (row : Holder) → Contains bus.holders row → row.thread ≡ thread
+  one_row : bus.holders ≡ row_of thread command ∷ [] → (row : Holder) → Contains bus.holders row → row_of thread command ≡ row
   one_row is row among = by (contains_cases (row_of thread command) [] row (subst (λ (hs : List Holder). Contains hs row) is among))
     where
-      by : (row_of thread command ≡ row) ⊎ Contains [] row → row.thread ≡ thread
-      by (inl same) = sym (ap (λ (h : Holder). h.thread) same)
+      by : (row_of thread command ≡ row) ⊎ Contains [] row → row_of thread command ≡ row
+      by (inl same) = same
       by (inr none) = absurd (contains_none row none)
 
-  own_rows : (s : Stage) → SessionStageKnows thread command s answer bus tree phase consulted → (row : Holder) → Contains bus.holders row → row.thread ≡ thread
-  own_rows stage.Begin k = no_row k.0.holds
-  own_rows stage.Finding k = no_row k.0.holds
+  own_rows : (s : Stage) → SessionStageKnows thread command s answer bus tree phase consulted → (row : Holder) → Contains bus.holders row → row_of thread command ≡ row
+  own_rows stage.Begin k = none_row k.0.holds
+  own_rows stage.Finding k = none_row k.0.holds
   own_rows stage.Mapping k = one_row k.0.holds
   own_rows (stage.Working call) k = one_row k.0.holds
   own_rows (stage.Closing reply) k = one_row k.0.holds
-  own_rows (stage.Ending reply) k = no_row k.0.holds
+  own_rows (stage.Ending reply) k = none_row k.0.holds
   own_rows stage.Over k = absurd k
 
   -- the window is closed, or it is open as it should be
@@ -166,28 +169,19 @@ module _ (thread : ℕ) (command : Command) (answer : Answer) (bus : Bus) (tree 
 -- a call that only reads is one of a command that stores nothing
 reads_only : (command : Command) (phase : Phase) → IsPhaseOf command phase → IsReading phase → writes command ≡ false
 reads_only command Idle of reading = absurd of
-reads_only command (Runs (Create path mode) drained refused) of reading = absurd reading
-reads_only command (Runs (Stat path) drained refused) of reading = ap writes (sym of)
+reads_only command (Runs (Create path mode) loaded drained asked) of reading = absurd reading
+reads_only command (Runs (Stat path) loaded drained asked) of reading = ap writes (sym of)
 reads_only command (Committed reply) of reading = absurd reading
 
 -- The words denote the tree all along a session.
 pub knows_denotes : (s : Session) (a : Answer) (w : World) → SessionKnows s a w → Denotes w.machine.bus.words w.tree
 knows_denotes s a w k = stage_denotes s.thread s.command.now a w.machine.bus w.tree (w.phases s.thread) (w.consulted s.thread) s.stage k.0.valid k.1
 
--- a closed register opens no key
-shut : (bus : Bus) (thread key : ℕ) → pkru_of bus thread ≡ closed_pkru → IsOpen bus thread key → ⊥
-shut bus thread key closed opened =
-    let clash : false ≡ true = sym (closed_reads key opened.0) ∙ ap (λ (p : ℕ). may_read p key) (sym closed) ∙ opened.1 in
-    cc
-
-shut_stores : (bus : Bus) (thread key : ℕ) → pkru_of bus thread ≡ closed_pkru → IsKey key → may_write (pkru_of bus thread) key ≡ false
-shut_stores bus thread key closed is = ap (λ (p : ℕ). may_write p key) closed ∙ closed_writes key is
-
 -- The windows are right where nobody holds a coffer and all registers are closed.
 pub bare_windowed : (w : World) → w.machine.bus.holders ≡ [] → ((u : ℕ) → pkru_of w.machine.bus u ≡ closed_pkru) → IsWindowed w
 bare_windowed w none closed = record {
   one = λ thread key other opened _. absurd (shut w.machine.bus thread key (closed thread) opened);
-  closed = λ thread key _ opened. shut w.machine.bus thread key (closed thread) opened;
+  closed = λ thread _. closed thread;
   unmapped = λ thread row _ among _. contains_none row (subst (λ (hs : List Holder). Contains hs row) none among);
   consulted = λ thread key opened. absurd (shut w.machine.bus thread key (closed thread) opened);
   reading = λ thread key _ is. shut_stores w.machine.bus thread key (closed thread) is;
@@ -202,7 +196,7 @@ module _ (s : Session) (a : Answer) (w : World) (k : SessionKnows s a w) (others
   active = not_idle s.thread s.command.now a w.machine.bus w.tree (w.phases s.thread) (w.consulted s.thread) s.stage k.1
 
   rows : (row : Holder) → Contains w.machine.bus.holders row → row.thread ≡ s.thread
-  rows = own_rows s.thread s.command.now a w.machine.bus w.tree (w.phases s.thread) (w.consulted s.thread) s.stage k.1
+  rows row among = sym (ap (λ (h : Holder). h.thread) (own_rows s.thread s.command.now a w.machine.bus w.tree (w.phases s.thread) (w.consulted s.thread) s.stage k.1 row among))
 
   state : (pkru_of w.machine.bus s.thread ≡ closed_pkru) ⊎ Window
   state = window s.thread s.command.now a w.machine.bus w.tree (w.phases s.thread) (w.consulted s.thread) s.stage k.1
@@ -227,10 +221,15 @@ module _ (s : Session) (a : Answer) (w : World) (k : SessionKnows s a w) (others
       let loads = reads_only s.command.now (w.phases s.thread) in_window.phase_of (subst (λ (t : ℕ). IsReading (w.phases t)) same reading) in
       ap (λ (p : ℕ). may_write p key) (ap (pkru_of w.machine.bus) same ∙ in_window.register ∙ ap (only_pkru 1) loads) ∙ only_loads key is
 
+  -- an idle thread is another one
+  closed_idle : (u : ℕ) → w.phases u ≡ Idle → (u ≡ s.thread) ⊎ (u ≢ s.thread) → pkru_of w.machine.bus u ≡ closed_pkru
+  closed_idle u idle (inl same) = absurd (active (ap w.phases (sym same) ∙ idle))
+  closed_idle u idle (inr other) = (others u other).1
+
   pub knows_windowed : IsWindowed w
   knows_windowed = record {
     one = λ u key other opened also. (open_is u key opened).2 ∙ sym (open_is u other also).2;
-    closed = λ u key idle opened. active (ap w.phases (sym (open_is u key opened).0) ∙ idle);
+    closed = λ u idle. closed_idle u idle (cases_eq u s.thread);
     unmapped = λ u row idle among is. active (ap w.phases (sym (rows row among) ∙ is) ∙ idle);
     consulted = λ u key opened.
         let at = open_is u key opened in (
@@ -333,3 +332,62 @@ knows_with_thread s a w after thread process bus tree phase consulted = knows_se
   phase = phase;
   consulted = consulted;
 })
+
+-- The key of each row is one of a coffer, where nobody holds one, and all along a session.
+pub bare_keys : (bus : Bus) → bus.holders ≡ [] → (row : Holder) → Contains bus.holders row → (1 ≤ row.key) × (row.key ≤ 15)
+bare_keys bus none row among = absurd (contains_none row (subst (λ (hs : List Holder). Contains hs row) none among))
+
+pub knows_keys : (s : Session) (a : Answer) (w : World) → SessionKnows s a w → (row : Holder) → Contains w.machine.bus.holders row → (1 ≤ row.key) × (row.key ≤ 15)
+knows_keys s a w k row among =
+    let first : 1 ≡ row.key = ap (λ (h : Holder). h.key) (own_rows s.thread s.command.now a w.machine.bus w.tree (w.phases s.thread) (w.consulted s.thread) s.stage k.1 row among) in
+    (omega (arith, first), omega (arith, first))
+
+-- A store under a closed register is a fault.
+
+is_none : (key : ℕ) → None ≢ Some key
+is_none key clash = cc
+
+is_some : (kind : FaultKind) → Some kind ≢ None
+is_some kind clash = cc
+
+is_some_key : (key other : ℕ) → Some key ≡ Some other → key ≡ other
+is_some_key key other same = cc
+
+-- the key of a process is that of a row
+key_among : (threads : List (ℕ × ℕ)) (holders : List Holder) (thread coffer key : ℕ) → key_in threads holders thread coffer ≡ Some key → (row : Holder) × Contains holders row × (row.key ≡ key)
+key_among threads [] thread coffer key is = absurd (is_none key is)
+key_among threads (h ∷ holders) thread coffer key is = by (holds_beside threads thread coffer h) is (key_among threads holders thread coffer key)
+  where
+    by : (b : Bool) → cond b (Some h.key) (key_in threads holders thread coffer) ≡ Some key
+        → (key_in threads holders thread coffer ≡ Some key → (row : Holder) × Contains holders row × (row.key ≡ key))
+        → (row : Holder) × Contains (h ∷ holders) row × (row.key ≡ key)
+    by true own rest = (h, contains_here h holders, is_some_key h.key key own)
+    by false later rest = let at = rest later in (at.0, contains_there h holders at.0 at.1, at.2)
+
+-- a store is refused by a closed register, whatever the key of the process
+refused_by : (key : Option ℕ) (writable : Bool) → ((k : ℕ) → key ≡ Some k → IsKey k) → store_fault_by key writable closed_pkru ≢ None
+refused_by None writable keys none = is_some NotMapped none
+refused_by (Some key) false keys none = is_some NotWritable none
+refused_by (Some key) true keys none = is_some KeyDenied (sym (ap (λ (b : Bool). cond b None (Some KeyDenied)) (closed_writes key (keys key refl))) ∙ none)
+
+module _ (bus : Bus) (thread addr : ℕ) (closed : pkru_of bus thread ≡ closed_pkru) (keys : (row : Holder) → Contains bus.holders row → (1 ≤ row.key) × (row.key ≤ 15)) where
+  key_of_row : (coffer key : ℕ) → key_in bus.threads bus.holders thread coffer ≡ Some key → IsKey key
+  key_of_row coffer key is =
+      let at = key_among bus.threads bus.holders thread coffer key is in
+      let bounds = keys at.0 at.1 in
+      subst IsKey at.2 (record { least = bounds.0; most = bounds.1 })
+
+  never_permitted : store_refusal bus thread addr ≢ None
+  never_permitted = by (is_word bus.words addr)
+    where
+      by : (b : Bool) → cond b (store_fault bus.threads bus.holders thread (pkru_of bus thread) (owner_of bus.words (addr / 4096))) (Some NotMapped) ≢ None
+      by true none = refused_by _ _ (key_of_row (owner_of bus.words (addr / 4096)))
+          (ap (λ (p : ℕ). store_fault bus.threads bus.holders thread p (owner_of bus.words (addr / 4096))) (sym closed) ∙ none)
+      by false none = is_some NotMapped none
+
+pub stray_refused : (bus : Bus) (thread addr : ℕ) (answer : Answer) → pkru_of bus thread ≡ closed_pkru → ((row : Holder) → Contains bus.holders row → (1 ≤ row.key) × (row.key ≤ 15))
+    → IsStored bus thread addr answer → (kind : FaultKind) × (answer ≡ Fault kind)
+stray_refused bus thread addr (WordIs x) closed keys stored = absurd stored
+stray_refused bus thread addr Done closed keys stored = absurd (never_permitted bus thread addr closed keys stored)
+stray_refused bus thread addr (Fault kind) closed keys stored = (kind, refl)
+stray_refused bus thread addr (Kern answer) closed keys stored = absurd stored

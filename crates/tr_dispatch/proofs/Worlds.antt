@@ -11,7 +11,8 @@ use Rattle.tr_types.specs.KernelView.{pages_of}
 use Rattle.tr_types.specs.Denotes.{control_of, dir_of}
 use Rattle.tr_types.specs.Rights.{closed_pkru}
 use Rattle.tr_types.specs.Tree.{Member}
-use Rattle.tr_types.specs.World.{World, Phase, Idle, Runs, Committed, put, put_consulted, stepped, told, phase_after, consulted_after, changed, committed, pool_of, SparesKernel, MapsConsulted, Shortage}
+use Rattle.tr_types.specs.World.{World, Phase, Idle, Runs, Committed, put, put_consulted, stepped, told, phase_after, consulted_after, changed, committed, pool_of, SparesKernel, MapsConsulted, Asked}
+use Rattle.tr_types.specs.Windows.{FindsShut}
 use Rattle.tr_types.specs.declared.action.Action.{Action}
 use Rattle.tr_types.specs.declared.action.Action.TheVariants.{Load, Store, Cas, Flush, Fence, Pkru, Kernel}
 use Rattle.tr_types.specs.declared.action.Answer.{Answer}
@@ -80,12 +81,12 @@ module _ (thread : ℕ) (command : Command) (w : World) (mark : Mark) (action : 
 -- A phase of the command's call stays one.
 told_phase_of : (command : Command) (pool : ℕ) (action : Action) (answer : Answer) (phase : Phase) → IsPhaseOf command phase → IsPhaseOf command (told pool phase action answer)
 told_phase_of command pool action answer Idle is = is
-told_phase_of command pool action answer (Runs running drained refused) is = is
+told_phase_of command pool action answer (Runs running loaded drained asked) is = is
 told_phase_of command pool action answer (Committed reply) is = is
 
 committed_phase_of : (command : Command) (tree : List Member) (phase : Phase) → IsPhaseOf command phase → IsPhaseOf command (committed tree phase)
 committed_phase_of command tree Idle is = is
-committed_phase_of command tree (Runs running drained refused) is = tt
+committed_phase_of command tree (Runs running loaded drained asked) is = tt
 committed_phase_of command tree (Committed reply) is = is
 
 pub phase_of_after : (command : Command) (pool : ℕ) (tree : List Member) (mark : Mark) (action : Action) (answer : Answer) (phase : Phase) → IsPhaseOf command phase → IsPhaseOf command (phase_after pool tree mark action answer phase)
@@ -104,12 +105,12 @@ phase_of_after command pool tree Commit action (Kern answer) phase is = told_pha
 -- Neither a register nor an unmap changes the phase.
 pub told_pkru : (pool pkru : ℕ) (phase : Phase) → told pool phase (Pkru pkru) Done ≡ phase
 told_pkru pool pkru Idle = refl
-told_pkru pool pkru (Runs command drained refused) = refl
+told_pkru pool pkru (Runs command loaded drained asked) = refl
 told_pkru pool pkru (Committed reply) = refl
 
 pub told_unmap : (pool : ℕ) (call : Kcall) (phase : Phase) → told pool phase (Kernel call) (Kern kern.Done) ≡ phase
 told_unmap pool call Idle = refl
-told_unmap pool call (Runs command drained refused) = refl
+told_unmap pool call (Runs command loaded drained asked) = refl
 told_unmap pool call (Committed reply) = refl
 
 -- The memory keeps its size.
@@ -210,28 +211,28 @@ module _ (command : Command) (words : List Word) where
   registers_stay thread (Pkru pkru) answer pkrus reached = absurd reached
   registers_stay thread (Kernel call) answer pkrus reached = refl
 
-  asked_consults : (call : Kcall) (running : Command) (drained : Bool) (refused : Option Shortage) (answer : Answer) (coffer : Option ℕ) → IsReachable command words (Kernel call) → consulted_after words (Runs running drained refused) (Kernel call) answer coffer ≡ coffer
-  asked_consults (kcall.Find path also) running drained refused answer coffer reached = absurd reached.1
-  asked_consults (kcall.Map path right exclusive) running drained refused answer coffer reached = absurd reached.1
-  asked_consults (kcall.Unmap id) running drained refused answer coffer reached = absurd reached.1
-  asked_consults (kcall.New parent path kind mode link guard) running drained refused answer coffer reached = absurd reached.1
-  asked_consults (kcall.Delete id parent link guard) running drained refused answer coffer reached = absurd reached.1
-  asked_consults (kcall.Enlarge id count) running drained refused answer coffer reached = refl
-  asked_consults (kcall.Shrink id pages guard) running drained refused answer coffer reached = absurd reached.1
-  asked_consults (kcall.Split id path pages mode link guard) running drained refused answer coffer reached = absurd reached.1
-  asked_consults (kcall.Merge child parent pages link guard) running drained refused answer coffer reached = absurd reached.1
-  asked_consults (kcall.Mode id mode) running drained refused answer coffer reached = absurd reached.1
-  asked_consults (kcall.Recover id ready) running drained refused answer coffer reached = absurd reached.1
+  asked_consults : (call : Kcall) (running : Command) (loaded drained : Bool) (asked : Asked) (answer : Answer) (coffer : Option ℕ) → IsReachable command words (Kernel call) → consulted_after words (Runs running loaded drained asked) (Kernel call) answer coffer ≡ coffer
+  asked_consults (kcall.Find path also) running loaded drained asked answer coffer reached = absurd reached.1
+  asked_consults (kcall.Map path right exclusive) running loaded drained asked answer coffer reached = absurd reached.1
+  asked_consults (kcall.Unmap id) running loaded drained asked answer coffer reached = absurd reached.1
+  asked_consults (kcall.New parent path kind mode link guard) running loaded drained asked answer coffer reached = absurd reached.1
+  asked_consults (kcall.Delete id parent link guard) running loaded drained asked answer coffer reached = absurd reached.1
+  asked_consults (kcall.Enlarge id count) running loaded drained asked answer coffer reached = refl
+  asked_consults (kcall.Shrink id pages guard) running loaded drained asked answer coffer reached = absurd reached.1
+  asked_consults (kcall.Split id path pages mode link guard) running loaded drained asked answer coffer reached = absurd reached.1
+  asked_consults (kcall.Merge child parent pages link guard) running loaded drained asked answer coffer reached = absurd reached.1
+  asked_consults (kcall.Mode id mode) running loaded drained asked answer coffer reached = absurd reached.1
+  asked_consults (kcall.Recover id ready) running loaded drained asked answer coffer reached = absurd reached.1
 
   pub consulted_stays : (phase : Phase) (action : Action) (answer : Answer) (coffer : Option ℕ) → IsReachable command words action → consulted_after words phase action answer coffer ≡ coffer
   consulted_stays Idle action answer coffer reached = refl
-  consulted_stays (Runs running drained refused) (Load addr) answer coffer reached = refl
-  consulted_stays (Runs running drained refused) (Store addr word) answer coffer reached = refl
-  consulted_stays (Runs running drained refused) (Cas addr old new) answer coffer reached = absurd reached
-  consulted_stays (Runs running drained refused) (Flush addr) answer coffer reached = absurd reached
-  consulted_stays (Runs running drained refused) Fence answer coffer reached = absurd reached
-  consulted_stays (Runs running drained refused) (Pkru pkru) answer coffer reached = absurd reached
-  consulted_stays (Runs running drained refused) (Kernel call) answer coffer reached = asked_consults call running drained refused answer coffer reached
+  consulted_stays (Runs running loaded drained asked) (Load addr) answer coffer reached = refl
+  consulted_stays (Runs running loaded drained asked) (Store addr word) answer coffer reached = refl
+  consulted_stays (Runs running loaded drained asked) (Cas addr old new) answer coffer reached = absurd reached
+  consulted_stays (Runs running loaded drained asked) (Flush addr) answer coffer reached = absurd reached
+  consulted_stays (Runs running loaded drained asked) Fence answer coffer reached = absurd reached
+  consulted_stays (Runs running loaded drained asked) (Pkru pkru) answer coffer reached = absurd reached
+  consulted_stays (Runs running loaded drained asked) (Kernel call) answer coffer reached = asked_consults call running loaded drained asked answer coffer reached
   consulted_stays (Committed reply) action answer coffer reached = refl
 
   -- such an action is built, and maps nothing
@@ -278,6 +279,30 @@ module _ (command : Command) (words : List Word) where
   maps_none consulted Fence reached = tt
   maps_none consulted (Pkru pkru) reached = tt
   maps_none consulted (Kernel call) reached = call_maps consulted call reached
+
+-- nor does it look for a coffer
+module _ (command : Command) (w : World) (thread : ℕ) (mark : Mark) where
+  call_finds : (call : Kcall) (answer : Answer) → IsReachable command w.machine.bus.words (Kernel call) → FindsShut w (entry.Act thread 0 mark (Kernel call) answer)
+  call_finds (kcall.Find path also) answer reached = absurd reached.1
+  call_finds (kcall.Map path right exclusive) answer reached = tt
+  call_finds (kcall.Unmap id) answer reached = tt
+  call_finds (kcall.New parent path kind mode link guard) answer reached = tt
+  call_finds (kcall.Delete id parent link guard) answer reached = tt
+  call_finds (kcall.Enlarge id count) answer reached = tt
+  call_finds (kcall.Shrink id pages guard) answer reached = tt
+  call_finds (kcall.Split id path pages mode link guard) answer reached = tt
+  call_finds (kcall.Merge child parent pages link guard) answer reached = tt
+  call_finds (kcall.Mode id mode) answer reached = tt
+  call_finds (kcall.Recover id ready) answer reached = tt
+
+  pub finds_none : (action : Action) (answer : Answer) → IsReachable command w.machine.bus.words action → FindsShut w (entry.Act thread 0 mark action answer)
+  finds_none (Load addr) answer reached = tt
+  finds_none (Store addr word) answer reached = tt
+  finds_none (Cas addr old new) answer reached = tt
+  finds_none (Flush addr) answer reached = tt
+  finds_none Fence answer reached = tt
+  finds_none (Pkru pkru) answer reached = tt
+  finds_none (Kernel call) answer reached = call_finds call answer reached
 
 -- a call's stores spare the kernel's pages
 pub spares : (words : List Word) (control : ℕ) (action : Action) → control ≡ control_of words → IsCallAction control action → SparesKernel words action

@@ -10,6 +10,7 @@ use Rattle.tr_types.specs.Tree.{Member}
 use Rattle.tr_types.specs.Denotes.{control_of, dir_of, Denotes}
 use Rattle.tr_types.specs.Commands.{IsCommand, consulted_path}
 use Rattle.tr_types.specs.World.{World, Phase, NotYet, Idle, Runs, Committed, stepped, IsLegal, MayReply}
+use Rattle.tr_types.specs.Windows.{FindsShut}
 use Rattle.tr_types.specs.declared.action.Action.{Action}
 use Rattle.tr_types.specs.declared.action.Answer.{Answer}
 use Rattle.tr_types.specs.declared.action.Answer.TheVariants.{Done, Kern}
@@ -132,10 +133,12 @@ pub record SessionGoes (Known : Answer → World → Type 0) (thread : ℕ) (mar
   pub denotes : Denotes (stepped w (entry.Act thread 0 mark action answer)).machine.bus.words (stepped w (entry.Act thread 0 mark action answer)).tree
   pub knows : Known answer (stepped w (entry.Act thread 0 mark action answer))
 
--- an action that a session gives: it has the command's mark, is built, and however it is answered, the session goes on
+-- An action that a session gives: it has the command's mark, is built, looks for no coffer while a key is open, and
+-- however it is answered, the session goes on.
 pub record SessionActs (Known : Answer → World → Type 0) (thread : ℕ) (command : Command) (mark : Mark) (action : Action) (w : World) : Type 0 where
   pub marked : mark ≡ mark_of (dir_of w.machine.bus.words) command action
   pub built : IsBuilt action
+  pub shut : (answer : Answer) → FindsShut w (entry.Act thread 0 mark action answer)
   pub goes : (answer : Answer) → Answers w.machine.bus thread action answer → SessionGoes Known thread mark action w answer
 
 -- a reply that a session gives: it is legal, and nothing is left open or mapped

@@ -5,3 +5,6 @@ mod pkru;
 mod session;
 
 pub use session::{Session, SessionStep};
+
+#[cfg(test)]
+mod tests;

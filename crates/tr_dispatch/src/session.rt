@@ -2,6 +2,7 @@
 // is told the answer. The coffer's key is open while the call works in it, and at no other time.
 ghost use Rattle.std.specs.Prelude.{◌≡◌, ◌≢◌, ◌↔◌, ◌≤◌, ℕ, IfOk, IsTrue, MatchOption, None, false};
 ghost use Rattle.tr_types.specs.Commands.{consulted_path};
+ghost use Rattle.tr_types.specs.Rights.{closed_pkru};
 ghost use Rattle.tr_types.specs.World.{World};
 ghost use Rattle.tr_types.specs.declared.action.Answer.{Answer};
 ghost use Rattle.tr_dispatch.specs.Sessions.{BeginsAt, SessionKnows, SessionStepsFrom, NextFrom, writes, right_of};
@@ -105,11 +106,7 @@ impl<'a> Session<'a> {
             Stage::Finding => self.map(alloc, answer),
             Stage::Mapping => Ok(self.open(answer)),
             Stage::Working(call) => self.work(alloc, call, answer),
-            Stage::Closing(reply) => kernel(
-                alloc,
-                Kcall::Unmap { id: ROOT_COFFER },
-                Stage::Ending(reply),
-            ),
+            Stage::Closing(reply) => unmap(alloc, reply),
             Stage::Ending(reply) => Ok(Next::Over(reply)),
             Stage::Over => Ok(damaged()),
         }
@@ -169,11 +166,7 @@ impl<'a> Session<'a> {
     {
         match call.next(alloc, answer)? {
             CallStep::Act(mark, action) => Ok(Next::Act(mark, action, Stage::Working(call))),
-            CallStep::Over(reply) => Ok(Next::Act(
-                Mark::Close,
-                Action::Pkru(closed_pkru()),
-                Stage::Closing(reply),
-            )),
+            CallStep::Over(reply) => Ok(close(reply)),
         }
     }
 }
@@ -182,6 +175,28 @@ fn kernel<'a>(alloc: Global, call: Kcall, stage: Stage<'a>) -> Result<Next<'a>, 
     ensures { IfOk result (λ next. next ≡ Next.Act Mark.Plain (Action.Kernel call) stage.entry) }
 {
     Ok(Next::Act(Mark::Plain, Action::Kernel(Boxed::new(alloc, call)?), stage))
+}
+
+// The call is over: closes the window.
+fn close<'a>(reply: Reply) -> Next<'a>
+    ensures { result ≡ Next.Act Mark.Close (Action.Pkru closed_pkru) (Stage.Closing reply) }
+{
+    Next::Act(
+        Mark::Close,
+        Action::Pkru(closed_pkru()),
+        Stage::Closing(reply),
+    )
+}
+
+// The window is closed: gives the coffer back.
+fn unmap<'a>(alloc: Global, reply: Reply) -> Result<Next<'a>, AllocError>
+    ensures { IfOk result (λ next. next ≡ Next.Act Mark.Plain (Action.Kernel (Kcall.Unmap 1)) (Stage.Ending reply)) }
+{
+    kernel(
+        alloc,
+        Kcall::Unmap { id: ROOT_COFFER },
+        Stage::Ending(reply),
+    )
 }
 
 // An answer that doesn't fit.

@@ -23,6 +23,7 @@ use Rattle.tr_types.specs.Commands.{IsCommand}
 use Rattle.zo_ops.specs.Laid.{IsLaid, IsFresh, entries_in}
 use Rattle.zo_ops.specs.Permitted.{Answers}
 use Rattle.zo_ops.specs.Knows.{Ground, Links, Goes, NextGives, StageKnows, IsSpot, AreDrawn, name_of, spot_pages}
+use Rattle.zo_ops.proofs.ReachLaws.{may_store}
 use Rattle.zo_ops.proofs.ReplySteps.{change_is_due, few_pages}
 use Rattle.zo_ops.proofs.EnlargeLaws.{laid_enlarge}
 use Rattle.zo_ops.proofs.GivenLaws.{distinct_two}
@@ -166,6 +167,6 @@ module _ (coffer : Coffer) (command : Command) (head : ℕ) (spot : Spot) (words
 
   pub ask_gives : (phase : Phase) → phase ≡ Runs command true true NotYet → NextGives coffer command (next.Act (Kernel (Enlarge 1 (spot_pages spot))) (stage.Drawing head spot)) words tree phase
   ask_gives phase is = record {
-    reachable = (refl, some_page spot, omega (arith, few_pages spot));
+    reachable = (may_store command k.create, (refl, some_page spot, omega (arith, few_pages spot)));
     goes = kernel_only _ (λ answer a. subst (λ p. Goes (StageKnows coffer command (stage.Drawing head spot)) Plain (Kernel (Enlarge 1 (spot_pages spot))) words tree p (Kern answer)) (sym is) (answered answer a));
   }

@@ -50,6 +50,8 @@ pub mod ReplySteps
 pub mod BeginLaws
 -- what comes after an answer, exit by exit
 pub mod CallExits
+-- which commands store
+pub mod ReachLaws
 -- what a call gives that asks for pages
 pub mod AskSteps
 -- what comes after a step of a look-up or of a count

@@ -28,6 +28,7 @@ use Rattle.zo_ops.specs.Reach.{IsCofferWord}
 use Rattle.zo_ops.specs.Knows.{Ground, Goes, NextGives, StageKnows, Prepares, IsCreate, name_of, spot_pairs, spot_entry}
 use Rattle.zo_ops.proofs.DenoteLaws.{built_denotes}
 use Rattle.zo_ops.proofs.LoadSteps.{ground_denotes}
+use Rattle.zo_ops.proofs.ReachLaws.{may_store}
 use Rattle.zo_ops.proofs.SpotLaws.{PlanKeeps, IsApart, spot_keeps, spot_commits, commit_reached, head_past, change_of}
 
 -- a permitted store is done
@@ -76,7 +77,7 @@ module _ (coffer : Coffer) (command : Command) (run after : PlanRun) (at : ℕ) 
 
   pub prepare_gives : (pair : ℕ × ℕ) → run.made < length run.plan.prepares.items → pair ≡ get_or run.plan.prepares.items run.made pair → NextGives coffer command (next.Act (Store pair.0 pair.1) (stage.Storing after at)) words tree phase
   prepare_gives pair lt is = record {
-    reachable = reached;
+    reachable = (may_store command k.links.create, reached);
     goes = done_only _ words pair.0 pair.1 (subst (λ m. Goes (StageKnows coffer command (stage.Storing after at)) m (Store pair.0 pair.1) words tree phase Done) (sym plain) (subst (λ p. Goes (StageKnows coffer command (stage.Storing after at)) Plain (Store pair.0 pair.1) words tree p Done) (sym k.phase_is) goes));
   }
     where
@@ -126,7 +127,7 @@ module _ (coffer : Coffer) (command : Command) (run after : PlanRun) (at : ℕ) 
 
   pub commit_gives : run.made ≡ length run.plan.prepares.items → NextGives coffer command (next.Act (Store run.plan.commit.0 run.plan.commit.1) (stage.Storing after at)) words tree phase
   commit_gives all = subst (λ (p : ℕ × ℕ). NextGives coffer command (next.Act (Store p.0 p.1) (stage.Storing after at)) words tree phase) (sym k.commit) (record {
-    reachable = reached;
+    reachable = (may_store command k.links.create, reached);
     goes = done_only _ words head_at entry (subst (λ m. Goes (StageKnows coffer command (stage.Storing after at)) m (Store head_at entry) words tree phase Done) (sym marked) (subst (λ p. Goes (StageKnows coffer command (stage.Storing after at)) Commit (Store head_at entry) words tree p Done) (sym k.phase_is) goes));
   })
     where

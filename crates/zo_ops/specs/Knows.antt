@@ -196,8 +196,8 @@ pub record Goes (Known : Answer → List Word → List Member → Phase → Type
   pub knows : Known answer (acted action answer words) (changed mark answer tree phase) (phase_after (pool_of words) tree mark action answer phase)
 
 -- an action that a call gives: it stays in the coffer's pages, and however it is answered, the call goes on
-pub record ActGives (Known : Answer → List Word → List Member → Phase → Type 0) (mark : Mark) (action : Action) (words : List Word) (tree : List Member) (phase : Phase) : Type 0 where
-  pub reachable : IsReachable words action
+pub record ActGives (Known : Answer → List Word → List Member → Phase → Type 0) (command : Command) (mark : Mark) (action : Action) (words : List Word) (tree : List Member) (phase : Phase) : Type 0 where
+  pub reachable : IsReachable command words action
   pub goes : (answer : Answer) → Answers words action answer → Goes Known mark action words tree phase answer
 
 -- a reply that a call gives is legal, and leaves the ground for the next call
@@ -205,11 +205,11 @@ abbrev pub ReplyGives : Coffer → Reply → List Word → List Member → Phase
 ReplyGives coffer reply words tree phase = MayReply tree phase reply × Ground coffer words tree
 
 abbrev pub NextGives : Coffer → Command → Next → List Word → List Member → Phase → Type 0
-NextGives coffer command (next.Act action stage) words tree phase = ActGives (StageKnows coffer command stage) (mark_of coffer.dir.at command action) action words tree phase
+NextGives coffer command (next.Act action stage) words tree phase = ActGives (StageKnows coffer command stage) command (mark_of coffer.dir.at command action) action words tree phase
 NextGives coffer command (next.Over reply) words tree phase = ReplyGives coffer reply words tree phase
 
 abbrev pub StepGives : CallRun → CallStep → List Word → List Member → Phase → Type 0
-StepGives call (step.Act mark action) words tree phase = ActGives (CallKnows call) mark action words tree phase
+StepGives call (step.Act mark action) words tree phase = ActGives (CallKnows call) call.command.now mark action words tree phase
 StepGives call (step.Over reply) words tree phase = ReplyGives call.coffer reply words tree phase
 
 -- what comes after an answer, where this was known with it

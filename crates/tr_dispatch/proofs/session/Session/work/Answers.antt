@@ -1,6 +1,9 @@
-use Rattle.std.proofs.Common.{subst}
+use Rattle.std.proofs.Common.{refl, sym, subst}
 use Rattle.zo_ops.specs.Calls.{IsStepOf}
 use Rattle.zo_ops.specs.Knows.{StepsFrom}
+use Rattle.tr_types.specs.Rights.{closed_pkru}
+use Rattle.tr_dispatch.specs.Sessions.{NextFrom}
+use Rattle.tr_dispatch.specs.declared.session.Stage.TheVariants as stage
 use Rattle.tr_dispatch.proofs.Exits.{act_gives, close_gives}
 use Rattle.tr_dispatch.proofs.session.Session.work.Goals as goal
 
@@ -13,6 +16,7 @@ returns-in-Act c = record {
 
 pub returns : goal.returns
 returns c = record {
-  gives = close_gives c.args.self.now.thread c.args.self.now.command.now c.args.answer.now c.args.call c.next.new.self c.in-Over.reply c.closed_pkru.result c.closed_pkru.ensures
-      (subst (StepsFrom c.args.call c.args.answer.now c.next.new.self) c.in-Over.is c.in_ok-mark.ensures.gives);
+  gives = subst (NextFrom c.args.self.now.thread c.args.self.now.command.now (stage.Working c.args.call) c.args.answer.now) (sym c.close.ensures)
+      (close_gives c.args.self.now.thread c.args.self.now.command.now c.args.answer.now c.args.call c.next.new.self c.in-Over.reply closed_pkru refl
+      (subst (StepsFrom c.args.call c.args.answer.now c.next.new.self) c.in-Over.is c.in_ok-mark.ensures.gives));
 }
