@@ -14,6 +14,10 @@ mod StandLemmas
 mod LineSteps
 -- a turn of a call
 mod TurnSteps
+-- what holds while turns of a call are made
+mod CallRuns
+-- what holds between two lines
+mod LineRuns
 -- how a run ends
 mod Endings
 -- when a call must come to its end

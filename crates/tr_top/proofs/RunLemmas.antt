@@ -116,6 +116,11 @@ pub goes_added : (r : Result (Unit {0}) Stop) (lines : List Line) (old new : Lis
 goes_added (Ok v) lines old new e taken now before after was run added later = goes_ok v lines old new e taken now before after run added.0 added.1 later
 goes_added (Err stop) lines old new e taken now before after was run added later = goes_err stop lines old new e taken now before after was run added later
 
+-- what follows where a part of a run went well
+pub on_ok : {T X Y : Type 0} (r : Result T Stop) → OnOk r X → (X → Y) → OnOk r Y
+on_ok (Ok v) holds then = then holds
+on_ok (Err stop) holds then = tt
+
 -- what holds where the entry was added
 pub on_added : {X : Type 0} (r : Result (Unit {0}) Stop) (old new : List Entry) (e : Entry) (taken now : Option (List ℕ)) (before after : ℕ) → Added r e old new taken now before after → (new ≡ old ++ e ∷ [] → X) → OnOk r X
 on_added (Ok v) old new e taken now before after added holds = holds added.0

@@ -1,5 +1,5 @@
 -- How calls stand while entries come.
-use Rattle.std.proofs.Common.{◌≡◌, ◌≢◌, ◌⊎◌, ℕ, ◌+◌, ◌<◌, ◌≤◌, List, [], ◌∷◌, ◌++◌, length, map, cond, Bool, true, false, Bor, Option, Some, None, Contains, zero, suc, refl, sym, ap, subst, ◌∙◌, arith, eq-eqb, ne_eqb, ◌==◌, inl, inr}
+use Rattle.std.proofs.Common.{◌≡◌, ◌≢◌, ◌⊎◌, ℕ, ◌+◌, ◌<◌, ◌≤◌, List, [], ◌∷◌, ◌++◌, length, map, slice_index_or, cond, Bool, true, false, Bor, Option, Some, None, Contains, zero, suc, refl, sym, ap, subst, ◌∙◌, arith, eq-eqb, ne_eqb, ◌==◌, inl, inr}
 use Rattle.std.specs.List.{slice_get}
 use Rattle.std.specs.Option.{unwrap_or, option_copied}
 use Rattle.std.proofs.lemmas.Bool.{cases_eq}

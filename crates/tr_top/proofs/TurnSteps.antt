@@ -1,10 +1,16 @@
 -- A turn of a call: its action or its reply may come, and calls stand after it.
-use Rattle.std.proofs.Common.{◌≡◌, ◌≢◌, ◌⊎◌, inl, inr, ℕ, ◌+◌, ◌<◌, ◌≤◌, List, [], ◌∷◌, ◌++◌, length, Bool, true, false, Option, Some, None, refl, sym, ap, subst, ◌∙◌, arith}
+use Rattle.std.proofs.Common.{◌≡◌, ◌≢◌, ◌⊎◌, inl, inr, ℕ, ◌+◌, ◌*◌, ◌/◌, ◌<◌, ◌≤◌, List, [], ◌∷◌, ◌++◌, length, Bool, true, false, Option, Some, None, refl, sym, ap, subst, ◌∙◌, arith}
 use Rattle.std.proofs.lemmas.Bool.{cases_eq}
-use Rattle.zo_layout.specs.Layout.{page_at, root_page}
+use Rattle.zo_layout.specs.Layout.{page_at, root_control, root_page}
 use Rattle.tr_types.specs.KernelView.{pages_of}
-use Rattle.tr_types.specs.Denotes.{dir_of}
-use Rattle.tr_types.specs.Machine.{Bus, Answers, HasRegisters}
+use Rattle.pm_words.specs.Word.{Word}
+use Rattle.pm_words.specs.Memory.{all_durable, HasPages}
+use Rattle.pm_words.proofs.WordLemmas.{has_pages, length_all_durable}
+use Rattle.tr_types.specs.NewImage.{new_image}
+use Rattle.tr_types.specs.Tree.{new_tree}
+use Rattle.zo_ops.proofs.NewLaws.{laid_new, roles_in_new}
+use Rattle.tr_types.specs.Denotes.{control_of, dir_of}
+use Rattle.tr_types.specs.Machine.{Bus, Answers, IsThread, HasRegisters, bus_over}
 use Rattle.tr_types.specs.Marks.{mark_of}
 use Rattle.tr_types.specs.Commands.{IsCommand}
 use Rattle.tr_types.specs.World.{World, Idle, Runs, NotYet, MayBegin, stepped}
@@ -16,8 +22,8 @@ use Rattle.tr_types.specs.declared.entry.Entry.{Entry}
 use Rattle.tr_types.specs.declared.entry.Entry.TheVariants as entry
 use Rattle.tr_types.specs.declared.entry.Mark.{Mark}
 use Rattle.tr_types.specs.declared.entry.Mark.TheVariants as mark
-use Rattle.tr_types.proofs.MachineLemmas.{pages_acted, register_kept}
-use Rattle.tr_dispatch.specs.Sessions.{SessionKnows, SessionActs, SessionEnds, SessionStepsFrom, BeginsAt}
+use Rattle.tr_types.proofs.MachineLemmas.{pages_acted, register_kept, closed_first}
+use Rattle.tr_dispatch.specs.Sessions.{IsGrounded, SessionKnows, SessionActs, SessionEnds, SessionStepsFrom, BeginsAt}
 use Rattle.tr_dispatch.specs.declared.session.Session.{Session}
 use Rattle.tr_dispatch.specs.declared.session.SessionStep.TheVariants as step
 use Rattle.tr_dispatch.proofs.SessionLaws.{knows_windowed, bare_windowed}
@@ -29,7 +35,8 @@ use Rattle.tr_top.specs.Along.{Place, Turns, Resting, ToTheEnd, ToAnOpening, Run
 use Rattle.tr_top.specs.Run.{world_after, place_after, pages_made}
 use Rattle.tr_top.specs.Running.{AreDue, IsTied, IsAside, IsSound, IsQuiet, IsAtTurn, IsCallGiven, Stands, StandsAs, answer_to}
 use Rattle.tr_top.proofs.PlaceLemmas.{before_running, before_dir}
-use Rattle.tr_top.proofs.RunLemmas.{length_more}
+use Rattle.tr_top.proofs.RunLemmas.{length_more, length_new_image}
+use Rattle.tr_top.proofs.EntryLemmas.{Adds, still_adds}
 use Rattle.tr_top.proofs.LineLemmas.{behind_running, behind_dir}
 use Rattle.tr_top.proofs.StandLemmas.{put_same, put_other, consulted_same, all_aside, answer_kept, answer_new, stands_sound, stands_added, stands_denotes}
 
@@ -63,6 +70,13 @@ due_follows : (turns : Turns) (p : Place) (e : Entry) → p.turns ≡ turns → 
 due_follows Resting p e is due may = absurd due
 due_follows ToTheEnd p e is due may = subst (λ (t : Turns). IsNext t p.left p.dir p.running e) (sym is) may
 due_follows ToAnOpening p e is due may = subst (λ (t : Turns). IsNext t p.left p.dir p.running e) (sym is) may
+
+-- one call
+abbrev call_of : ℕ → Command → Option Running
+call_of thread command = Some (record { thread = thread; command = command })
+
+same_call : (t u : ℕ) (c d : Command) → t ≡ u → c ≡ d → call_of t c ≡ call_of u d
+same_call t u c d threads commands = ap (λ (x : ℕ). call_of x c) threads ∙ ap (call_of u) commands
 
 -- a thread that stands aside of an action of another
 aside_acted : (w : World) (thread u : ℕ) (m : Mark) (action : Action) (answer : Answer) → u ≢ thread → IsAside w u → IsAside (stepped w (entry.Act thread 0 m action answer)) u
@@ -106,40 +120,49 @@ module _ (w : World) (p : Place) (trace : List Entry) (call next : RunningCall) 
         knows = subst (λ (a : Answer). SessionKnows next.session a (stepped w (e answer)))
             (sym (ap (answer_to (trace ++ e answer ∷ [])) asked ∙ answer_new trace next.session.thread 0 m action answer)) goes.knows;
         others = aside answer;
-        running = acted_running p.turns m p ∙ k.running ∙ ap Some (same_call thread command);
+        running = acted_running p.turns m p ∙ k.running ∙ same_call _ _ _ _ (sym thread) (sym command);
         dir = acted_dir p.turns m p ∙ k.dir ∙ ap (λ (n : ℕ). page_at (root_page n)) (sym (pages_acted action answer w.machine.bus.words));
       }
-    where
-      same_call : next.session.thread ≡ call.session.thread → next.session.command.now ≡ call.session.command.now → record { thread = call.session.thread; command = call.session.command.now } ≡ record { thread = next.session.thread; command = next.session.command.now }
-      same_call t c = λ i. record { thread = sym t i; command = sym c i }
 
 -- The reply.
 module _ (w : World) (p : Place) (trace : List Entry) (call : RunningCall) (next : Session) (reply : Reply) (k : IsAtTurn w p trace call)
     (thread : next.thread ≡ call.session.thread) (ends : SessionEnds next.thread reply w) where
-  abbrev told : Entry
-  told = entry.Reply next.thread reply
+  abbrev replied : Entry
+  replied = entry.Reply next.thread reply
 
-  aside_told : (u : ℕ) → u ≢ next.thread → IsAside (stepped w told) u
+  aside_told : (u : ℕ) → u ≢ next.thread → IsAside (stepped w replied) u
   aside_told u ne = let a = k.others u (λ same. ne (same ∙ sym thread)) in record { idle = put_other w.phases next.thread Idle u ne ∙ a.idle; closed = a.closed }
 
-  itself_told : IsAside (stepped w told) next.thread
+  itself_told : IsAside (stepped w replied) next.thread
   itself_told = record { idle = put_same w.phases next.thread Idle; closed = ends.bare.register }
 
-  pub reply_follows : AreDue p.turns → MayFollow p told
-  reply_follows due = due_follows p.turns p told refl due (subst (λ (r : Option Running). IsOfCall p.dir r told) (sym k.running) thread)
+  pub reply_follows : AreDue p.turns → MayFollow p replied
+  reply_follows due = due_follows p.turns p replied refl due (subst (λ (r : Option Running). IsOfCall p.dir r replied) (sym k.running) thread)
 
-  pub reply_stands : StandsAs (stepped w told) (followed p told) (trace ++ told ∷ []) None
+  pub reply_stands : StandsAs (stepped w replied) (followed p replied) (trace ++ replied ∷ []) None
   reply_stands = record {
     ground = ends.grounded;
     unheld = ends.bare.holds;
-    aside = all_aside (stepped w told) next.thread aside_told itself_told;
+    aside = all_aside (stepped w replied) next.thread aside_told itself_told;
     running = before_running p.left None p.dir;
   }
 
-  pub reply_sound : IsSound w told
-  reply_sound = stands_sound w told (followed p told) (trace ++ told ∷ []) None ends.legal tt refl reply_stands
+  pub reply_sound : IsSound w replied
+  reply_sound = stands_sound w replied (followed p replied) (trace ++ replied ∷ []) None ends.legal tt refl reply_stands
+
+-- where no call runs, the words are the ground of the next one
+pub quiet_free : (w : World) (p : Place) (trace : List Entry) (call : Option RunningCall) → StandsAs w p trace call → p.running ≡ None → IsQuiet w p
+quiet_free w p trace None k free = k
+quiet_free w p trace (Some call) k free = let clash : None ≡ call_of call.session.thread call.session.command.now = sym free ∙ k.running in absurd (cc)
 
 -- A call that begins.
+pub call_sound : (w : World) (p : Place) (thread : ℕ) (command : Command) → IsQuiet w p → IsSound w (entry.Call thread command)
+call_sound w p thread command k = record {
+  right = record { legal = λ _. subst MayBegin (sym (k.aside thread).idle) tt; denotes = λ _. ground_denotes k.ground.0 w.machine.bus.words w.tree k.ground.1 };
+  windows = (bare_windowed (stepped w (entry.Call thread command)) k.unheld (λ u. (k.aside u).closed), tt);
+  unlost = refl;
+}
+
 module _ (lines : List Line) (m : MachineView) (trace : List Entry) (thread : ℕ) (command : Command) (session : Session) (tied : IsTied lines m trace) (k : IsQuiet (world_after lines trace) (place_after lines trace)) (given : IsCallGiven lines trace thread command)
     (thread_is : session.thread ≡ thread) (command_is : session.command.now ≡ command) (begins : (first : Answer) (w : World) → BeginsAt thread command w → SessionKnows session first w) where
   abbrev w : World
@@ -166,12 +189,77 @@ module _ (lines : List Line) (m : MachineView) (trace : List Entry) (thread : �
       phase_is = put_same w.phases thread (Runs command false false NotYet);
     });
     others = λ u ne. let a = k.aside u in record { idle = put_other w.phases thread _ u (λ same. ne (same ∙ sym thread_is)) ∙ a.idle; closed = a.closed };
-    running = behind_running p.left (Some (record { thread = thread; command = command })) p.dir ∙ ap Some (same_call thread_is command_is);
+    running = behind_running p.left (Some (record { thread = thread; command = command })) p.dir ∙ same_call _ _ _ _ (sym thread_is) (sym command_is);
     dir = behind_dir p.left (Some (record { thread = thread; command = command })) p.dir ∙ given.dir ∙ ap (λ (n : ℕ). page_at (root_page n)) (sym tied.size ∙ ap (λ (b : Bus). pages_of b.words) tied.bus);
   }
-    where
-      same_call : session.thread ≡ thread → session.command.now ≡ command → record { thread = thread; command = command } ≡ record { thread = session.thread; command = session.command.now }
-      same_call t c = λ i. record { thread = sym t i; command = sym c i }
 
-  pub call_sound : IsSound w called
-  call_sound = stands_sound w called (followed p called) (trace ++ called ∷ []) (Some (record { session = session; asked = length trace })) (subst MayBegin (sym (k.aside thread).idle) tt) tt refl call_stands
+
+-- What a call gives with the answer that it was told.
+pub turn_acts : (w : World) (trace : List Entry) (call : RunningCall) (next : Session) (m : Mark) (action : Action) (told : Answer) → told ≡ answer_to trace call.asked → SessionStepsFrom call.session told next (step.Act m action) → SessionKnows call.session (answer_to trace call.asked) w → SessionActs (SessionKnows next) next.thread next.command.now m action w
+turn_acts w trace call next m action told heard steps knows = steps w (subst (λ (a : Answer). SessionKnows call.session a w) (sym heard) knows)
+
+pub turn_ends : (w : World) (trace : List Entry) (call : RunningCall) (next : Session) (reply : Reply) (told : Answer) → told ≡ answer_to trace call.asked → SessionStepsFrom call.session told next (step.Over reply) → SessionKnows call.session (answer_to trace call.asked) w → SessionEnds next.thread reply w
+turn_ends w trace call next reply told heard steps knows = steps w (subst (λ (a : Answer). SessionKnows call.session a w) (sym heard) knows)
+
+-- The reply may come, and leaves no call.
+pub reply_adds : (lines : List Line) (m : MachineView) (trace : List Entry) (call : RunningCall) (next : Session) (t : ℕ) (reply : Reply) → IsTied lines m trace → IsAtTurn (world_after lines trace) (place_after lines trace) trace call → t ≡ next.thread → next.thread ≡ call.session.thread → SessionEnds next.thread reply (world_after lines trace) → AreDue (place_after lines trace).turns
+    → Adds lines m trace (entry.Reply t reply)
+reply_adds lines m trace call next t reply tied k same thread ends due = subst (λ (u : ℕ). Adds lines m trace (entry.Reply u reply)) (sym same) (still_adds lines m trace (entry.Reply next.thread reply) tied
+    (reply_follows (world_after lines trace) (place_after lines trace) trace call next reply k thread ends due)
+    (subst (λ (u : ℕ). IsThread (world_after lines trace).machine.bus u) (sym thread) k.knows.0.lives)
+    (reply_sound (world_after lines trace) (place_after lines trace) trace call next reply k thread ends) refl)
+
+pub reply_done : (lines : List Line) (trace new : List Entry) (call : RunningCall) (next : Session) (t : ℕ) (reply : Reply) → IsAtTurn (world_after lines trace) (place_after lines trace) trace call → t ≡ next.thread → next.thread ≡ call.session.thread → SessionEnds next.thread reply (world_after lines trace) → new ≡ trace ++ entry.Reply t reply ∷ [] → Stands lines new None
+reply_done lines trace new call next t reply k same thread ends is = stands_added lines trace new (entry.Reply next.thread reply) None (is ∙ ap (λ (u : ℕ). trace ++ entry.Reply u reply ∷ []) same)
+    (reply_stands (world_after lines trace) (place_after lines trace) trace call next reply k thread ends)
+
+pub call_done : (lines : List Line) (m : MachineView) (trace new : List Entry) (thread asked : ℕ) (command told : Command) (session : Session) → IsTied lines m trace → IsQuiet (world_after lines trace) (place_after lines trace) → IsCallGiven lines trace thread command → session.thread ≡ thread → session.command.now ≡ command → ((first : Answer) (w : World) → BeginsAt thread command w → SessionKnows session first w)
+    → told ≡ command → asked ≡ length trace → new ≡ trace ++ entry.Call thread told ∷ [] → Stands lines new (Some (record { session = session; asked = asked }))
+call_done lines m trace new thread asked command told session tied k given thread_is command_is begins same at is =
+    let from_now : Stands lines new (Some (record { session = session; asked = length trace })) = stands_added lines trace new (entry.Call thread command) (Some (record { session = session; asked = length trace })) (is ∙ ap (λ (c : Command). trace ++ entry.Call thread c ∷ []) same)
+            (call_stands lines m trace thread command session tied k given thread_is command_is begins) in
+    subst (λ (n : ℕ). Stands lines new (Some (record { session = session; asked = n }))) (sym at) from_now
+
+-- A run begins quiet.
+-- the number of pages of a new image in memory
+pages_in : (words : List Word) (image : List ℕ) (pages : ℕ) → words ≡ all_durable image → image ≡ new_image pages → pages_of words ≡ pages
+pages_in words image pages is made = ap (λ (ws : List Word). pages_of ws) (is ∙ ap all_durable made) ∙ ap (λ (n : ℕ). n / 512) (length_all_durable (new_image pages) ∙ length_new_image pages) ∙ whole pages
+  where
+    whole : (n : ℕ) → 512 * n / 512 ≡ n
+    whole n = omega arith
+
+ground_of : (pages : ℕ) → 64 ≤ pages → pages ≤ 16384 → IsGrounded (all_durable (new_image pages)) new_tree
+ground_of pages least most =
+    let size : pages_of (all_durable (new_image pages)) ≡ pages = pages_in (all_durable (new_image pages)) (new_image pages) pages refl refl in
+    (
+      record {
+        control = record { at = page_at (root_control pages); some = omega arith; near = omega arith };
+        dir = record { at = page_at (root_page pages); some = omega arith; near = omega arith };
+      },
+      record {
+        roles = roles_in_new pages;
+        files = [];
+        frees = [];
+        laid = laid_new pages least most;
+        tree_is = refl;
+        control = ap (λ (n : ℕ). page_at (root_control n)) (sym size);
+        dir = ap (λ (n : ℕ). page_at (root_page n)) (sym size);
+      },
+    )
+
+pub quiet_first : (lines : List Line) (trace : List Entry) (pages : ℕ) → pages ≡ pages_made lines → 64 ≤ pages → pages ≤ 16384 → trace ≡ [] → IsQuiet (world_after lines trace) (place_after lines trace)
+quiet_first lines trace pages made least most none = subst (λ (t : List Entry). IsQuiet (world_after lines t) (place_after lines t)) (sym none) (record {
+  ground = subst (λ (n : ℕ). IsGrounded (all_durable (new_image n)) new_tree) made (ground_of pages least most);
+  unheld = refl;
+  aside = λ t. record { idle = refl; closed = closed_first t };
+  running = before_running lines None 0;
+})
+
+pub holds_pages : (image : List ℕ) (pages : ℕ) → image ≡ new_image pages → 64 ≤ pages → pages ≤ 16384 → HasPages (length image)
+holds_pages image pages is least most = has_pages (length image) pages (record { whole = ap (λ (l : List ℕ). length l) is ∙ length_new_image pages; least = least; most = most })
+
+pub image_is : (words : List Word) (image : List ℕ) (pages : ℕ) → words ≡ all_durable image → image ≡ new_image pages → words ≡ all_durable (new_image (pages_of words))
+image_is words image pages is made = is ∙ ap all_durable made ∙ ap (λ (n : ℕ). all_durable (new_image n)) (sym (pages_in words image pages is made))
+
+pub bus_first : (bus : Bus) (words : List Word) (image : List ℕ) (pages : ℕ) → words ≡ all_durable image → image ≡ new_image pages → bus ≡ bus_over (new_image (pages_of words)) → bus ≡ bus_over (new_image pages)
+bus_first bus words image pages is made opened = opened ∙ ap (λ (n : ℕ). bus_over (new_image n)) (pages_in words image pages is made)

@@ -1,0 +1,13 @@
+use Rattle.std.proofs.Common.{◌≡◌}
+use Rattle.tr_top.proofs.LineRuns.{LineRuns}
+use Rattle.tr_top.proofs.runner.Runner.run.Given as goal
+
+abbrev pub invariant-loop-line : goal.invariant-loop-line
+invariant-loop-line g l =
+    let written = g.O.Sink.written in
+    let faults = g.O.Sink.faults in
+    record {
+      items : l.line-items ≡ l.fn.self.script.now;
+      script : l.self.script.now ≡ l.fn.self.script.now;
+      runs : LineRuns l.fn.self.script.now l.self.machine l.line-index l.fn.self.log.trace l.self.log.trace l.self.running (written l.fn.out) (written l.out) (faults l.fn.out) (faults l.out);
+    }
