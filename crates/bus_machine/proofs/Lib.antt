@@ -12,3 +12,5 @@ mod Ranges
 mod Accesses
 -- what the machine answers
 mod Noted
+-- a machine that was just opened
+mod Opened

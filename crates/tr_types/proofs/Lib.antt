@@ -2,3 +2,5 @@
 pub mod FoldLemmas
 -- laws of the free pages
 pub mod FreePages
+-- laws of the registers before any thread has opened a key
+pub mod Registers
