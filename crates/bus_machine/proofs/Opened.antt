@@ -46,7 +46,7 @@ tied_opened m words same new size first processes threads holders len zeros pkru
     let image = same ∙ new ∙ ap (λ (n : ℕ). all_durable (new_image n)) count in
     record {
       owners = subst (λ (ws : List Word). HasOwners ws m.pages m.first_free) (sym image)
-      (subst (λ (n : ℕ). HasOwners (all_durable (new_image m.pages)) m.pages n) (sym first) (owners_new m.pages size.least size.most));
+          (subst (λ (n : ℕ). HasOwners (all_durable (new_image m.pages)) m.pages n) (sym first) (owners_new m.pages size.least size.most));
       told = subst (λ (hs : List Holder). AreTold m.pages m.first_free hs m.tables.owners) (sym holders) (told_new m.pages m.first_free m.tables.owners len zeros);
       small = record {
         processes_small = λ p among. absurd (none_among p (subst (λ (l : List (ℕ × Cred)). Contains (map (λ (q : ℕ × Cred). q.0) l) p) processes among));
