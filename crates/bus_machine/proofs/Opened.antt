@@ -1,5 +1,5 @@
 -- A machine that was just opened.
-use Rattle.std.proofs.Common.{◌≡◌, ◌≢◌, ℕ, ◌+◌, ◌*◌, ◌<◌, ◌≤◌, List, [], length, map, replicate, sym, ap, subst, ◌∙◌, refl, arith, true, false}
+use Rattle.std.proofs.Common.{◌≡◌, ℕ, ◌+◌, ◌*◌, List, [], length, map, replicate, sym, ap, subst, ◌∙◌, arith, true}
 use Rattle.std.specs.Prelude.{All, Contains, is_some}
 use Rattle.std.proofs.lemmas.List.{length-replicate}
 use Rattle.pm_words.specs.Word.{Word}
@@ -13,7 +13,7 @@ use Rattle.tr_types.specs.declared.permission.Cred.{Cred}
 use Rattle.tr_types.specs.Machine.{Bus, bus_over}
 use Rattle.tr_types.proofs.FreePages.{pages_are}
 use Rattle.tr_types.proofs.Registers.{closed_pkrus_are}
-use Rattle.bus_machine.specs.Ties.{HasOwners, AreTold, AreSmall}
+use Rattle.bus_machine.specs.Ties.{HasOwners, AreTold}
 use Rattle.bus_machine.specs.Parts.{AreTied}
 use Rattle.bus_machine.specs.declared.parts.Parts.{Parts}
 use Rattle.bus_machine.proofs.Owners.{owners_new}

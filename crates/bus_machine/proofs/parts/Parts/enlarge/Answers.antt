@@ -1,9 +1,9 @@
-use Rattle.std.proofs.Common.{◌≡◌, ℕ, ◌+◌, ◌-◌, ◌<◌, ◌≤◌, List, length, Some, sym, ap, subst, ◌∙◌, refl, arith, map, take, true}
+use Rattle.std.proofs.Common.{◌≡◌, ℕ, ◌+◌, ◌<◌, ◌≤◌, List, sym, ap, subst, ◌∙◌, refl, arith, true}
 use Rattle.std.specs.Prelude.{All}
 use Rattle.std.specs.List.{range_with_len}
 use Rattle.pm_words.specs.Word.{Word}
 use Rattle.zo_layout.specs.Layout.{kernel_pages}
-use Rattle.tr_types.specs.KernelView.{given_to, free_pages}
+use Rattle.tr_types.specs.KernelView.{given_to}
 use Rattle.tr_types.specs.Rights.{is_held}
 use Rattle.page_rights.specs.Tables.{View, MayStand, with_owners, with_pages}
 use Rattle.bus_machine.specs.Parts.{bus_of}

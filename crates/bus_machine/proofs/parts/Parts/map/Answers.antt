@@ -1,4 +1,4 @@
-use Rattle.std.proofs.Common.{◌≡◌, ℕ, ◌+◌, ◌-◌, ◌≤◌, List, Some, Err, sym, ap, subst, ◌∙◌, refl, arith, map}
+use Rattle.std.proofs.Common.{ℕ, ◌-◌, ◌≤◌, List, Some, Err, sym, ap, subst, ◌∙◌, refl, arith}
 use Rattle.std.specs.Prelude.{All}
 use Rattle.std.specs.List.{range_with_len}
 use Rattle.zo_layout.specs.Layout.{kernel_pages}

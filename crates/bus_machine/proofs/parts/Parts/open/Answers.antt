@@ -1,4 +1,4 @@
-use Rattle.std.proofs.Common.{◌≡◌, ℕ, ◌+◌, length, ap, replicate, ◌∙◌, refl}
+use Rattle.std.proofs.Common.{ℕ, ◌+◌, length, ap, replicate, ◌∙◌}
 use Rattle.bus_machine.proofs.Opened.{bus_opened, tied_opened, size_opened_in}
 use Rattle.bus_machine.proofs.parts.Parts.open.Goals as goal
 
