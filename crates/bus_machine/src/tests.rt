@@ -1,6 +1,7 @@
 ghost use Rattle.std.specs.Prelude.{◌≡◌, ◌<◌, ◌+◌, length, IfOk};
 ghost use Rattle.pm_words.specs.Memory.{all_durable};
 ghost use Rattle.tr_types.specs.NewImage as image;
+ghost use Rattle.tr_types.specs.KernelView.{pages_of};
 ghost use Rattle.tr_types.specs.Machine.{IsGiven};
 ghost use Rattle.bus_machine.specs.Calls.{IsBuiltCall};
 
@@ -85,12 +86,14 @@ fn bucket_word(i: u32) -> u64
     if i == 254 { 1 } else { 0 }
 }
 
-// The memory of a new image of 64 pages.
-fn new_words(alloc: Global) -> Result<Words, AllocError>
-    ensures words { IfOk result (λ words. words ≡ all_durable (image.new_image 64)) }
+// The memory of a new image of so many pages, which are 64.
+fn new_words(alloc: Global, pages: u32) -> Result<Words, AllocError>
+    requires { pages ≡ 64 }
+    ensures words { IfOk result (λ words. words ≡ all_durable (image.new_image pages)) }
+    ensures size { IfOk result (λ words. pages_of words ≡ pages) }
 {
     let mut words = Vec::new(alloc);
-    for i in 0u32..32_768 {
+    for i in 0..512 * pages {
         words.push(word_in_page(i / 512, i % 512))?;
     }
     Words::of_image(alloc, Image::new(words))
@@ -98,7 +101,7 @@ fn new_words(alloc: Global) -> Result<Words, AllocError>
 
 // Threads 0 and 1 in process 0, and thread 2 in process 1.
 fn with_three_threads(alloc: Global) -> Result<Machine, BusFault> {
-    let mut machine = Machine::open(alloc, new_words(alloc)?)?;
+    let mut machine = Machine::open(alloc, new_words(alloc, 64)?)?;
     machine.start_process(0, USER)?;
     machine.start_process(1, USER)?;
     machine.start_thread(0, 0)?;
