@@ -1,10 +1,9 @@
 -- What the holders' rows say of a coffer, and what each change of them leaves.
-use Rattle.std.proofs.Common.{◌≡◌, ◌≢◌, ℕ, List, [], ◌∷◌, ◌++◌, Bool, true, false, cond, refl, sym, ap, subst, ◌∙◌, ◌⊎◌, inl, inr, Option, Some, None, nat_eq}
+use Rattle.std.proofs.Common.{◌≡◌, ◌≢◌, ℕ, List, [], ◌∷◌, ◌++◌, Bool, true, false, cond, refl, sym, ap, ◌∙◌, ◌⊎◌, inl, inr, Option, Some, None, nat_eq}
 use Rattle.std.specs.Prelude.{◌&&◌, ◌||◌, not}
 use Rattle.std.proofs.lemmas.Bool.{or_parts, or_cases, or_left, or_right, and_parts, and_left, and_right, not_from_false, eq-eqb, eqb-true, ne_eqb}
 use Rattle.tr_types.specs.declared.kernel_call.Holder.{Holder}
-use Rattle.tr_types.specs.declared.action.FaultKind.{FaultKind}
-use Rattle.tr_types.specs.Rights.{key_in, is_writable, holds_beside, are_together, is_row_of, is_held, holds_itself, without_row, with_row, load_fault, store_fault, load_fault_by, store_fault_by, allows_writing}
+use Rattle.tr_types.specs.Rights.{key_in, is_writable, are_together, is_row_of, is_held, holds_itself, without_row, with_row, load_fault, store_fault, load_fault_by, store_fault_by, allows_writing}
 use Rattle.tr_types.specs.Machine.{holds_to_write}
 use Rattle.page_rights.specs.Tables.{rows_of}
 

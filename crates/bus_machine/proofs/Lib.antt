@@ -1,7 +1,7 @@
 -- what the holders' rows say
-mod Holding
+pub mod Holding
 -- who was started
-mod Started
+pub mod Started
 -- whose the pages are, after each change
 mod Owners
 -- what the tables are told, after each change
@@ -9,6 +9,8 @@ mod Told
 -- numbers in a row
 mod Ranges
 -- what an access is answered
-mod Accesses
+pub mod Accesses
 -- what the machine answers
 mod Noted
+-- a machine that was just opened
+mod Opened

@@ -1,11 +1,10 @@
 -- What the machine answers, of what its parts did.
-use Rattle.std.proofs.Common.{◌≡◌, ℕ, ◌<◌, Bool, true, false, sym, ap, subst, ◌∙◌, refl, Result, Ok, Err}
+use Rattle.std.proofs.Common.{◌≡◌, ℕ, Bool, true, false, sym, subst, ◌∙◌, Result, Ok, Err}
 use Rattle.std.specs.Prelude.{Contains, IfOk, OnOk, MatchResult}
 use Rattle.std.specs.declared.alloc.AllocError.{AllocError}
 use Rattle.tr_types.specs.declared.action.Action.{Action}
 use Rattle.tr_types.specs.declared.action.Answer.{Answer}
 use Rattle.tr_types.specs.Machine.{IsThread, with_thread}
-use Rattle.bus_machine.specs.View.{MachineView}
 use Rattle.bus_machine.specs.Calls.{ActsAs, StartsThread}
 use Rattle.bus_machine.specs.Parts.{bus_of, DoesAct}
 use Rattle.bus_machine.specs.declared.fault.BusFault.{BusFault}

@@ -1,17 +1,17 @@
 -- Whose the pages are: in a new image, after a permitted store, and after pages are given.
-use Rattle.std.proofs.Common.{◌≡◌, ◌≢◌, ◌⊎◌, inl, inr, ℕ, ◌+◌, ◌-◌, ◌*◌, ◌/◌, ◌%◌, ◌<◌, ◌≤◌, Bool, true, false, cond, List, [], ◌∷◌, ◌++◌, length, refl, sym, ap, subst, ◌∙◌, arith, suc, zero, nat_eq, nat_lt, take}
+use Rattle.std.proofs.Common.{◌≡◌, ◌≢◌, ◌⊎◌, inl, inr, ℕ, ◌+◌, ◌-◌, ◌%◌, ◌<◌, ◌≤◌, Bool, true, false, cond, List, [], ◌∷◌, length, refl, sym, ap, subst, ◌∙◌, arith, suc, zero, nat_eq, nat_lt, take}
 use Rattle.std.specs.Prelude.{fold, filter}
 use Rattle.std.specs.List.{range_with_len}
 use Rattle.std.proofs.lemmas.Bool.{cases_eq, cases_lt, ne_eqb, eq-eqb, lt-ltb, le-ltb}
 use Rattle.std.proofs.lemmas.List.FromFn.{length-range_with_len}
 use Rattle.pm_words.specs.Word.{Word}
-use Rattle.pm_words.specs.Memory.{store_at, all_durable, IsPages}
-use Rattle.zo_layout.specs.Layout.{page_at, kernel_pages, owner_table, owner_word, root_control, root_page}
+use Rattle.pm_words.specs.Memory.{store_at, all_durable}
+use Rattle.zo_layout.specs.Layout.{page_at, kernel_pages, owner_word, root_control, root_page}
 use Rattle.tr_types.specs.NewImage.{new_image, owner_in_new}
 use Rattle.tr_types.specs.KernelView.{pages_of, owner_of, free_pages, given_to}
 use Rattle.tr_types.specs.FreePages.{IsFreeFrom}
 use Rattle.tr_types.specs.Machine.{pages_held, root_mapped, root_perm}
-use Rattle.tr_types.proofs.FreePages.{pages_are, owner_apart, owner_kept, owner_given, owner_new, size_stored, size_opened, free_list, filter_all}
+use Rattle.tr_types.proofs.FreePages.{pages_are, owner_apart, owner_kept, owner_given, owner_new, size_stored, size_opened, free_list}
 use Rattle.bus_machine.specs.Ties.{HasOwners}
 use Rattle.bus_machine.specs.Parts.{mapped_in}
 

@@ -1,6 +1,6 @@
 -- What the tables are told of the pages: at first, and after a map, an unmap and an enlarging.
-use Rattle.std.proofs.Common.{◌≡◌, ◌≢◌, ◌⊎◌, inl, inr, ℕ, ◌+◌, ◌-◌, ◌<◌, ◌≤◌, Bool, true, false, cond, List, [], ◌∷◌, ◌++◌, length, map, refl, sym, ap, subst, ◌∙◌, arith, suc, zero, nat_eq, slice_index_or, slice_set, get_or-set_same, get_or-set_other}
-use Rattle.std.specs.Prelude.{All, Contains, ◌↔◌, slice_index, IsTrue}
+use Rattle.std.proofs.Common.{◌≡◌, ◌⊎◌, inl, inr, ℕ, ◌+◌, ◌-◌, ◌<◌, ◌≤◌, Bool, true, false, cond, List, [], length, refl, sym, ap, subst, ◌∙◌, arith, suc, zero, nat_eq, slice_set, get_or-set_same, get_or-set_other}
+use Rattle.std.specs.Prelude.{All, Contains, slice_index}
 use Rattle.std.specs.List.{range_with_len}
 use Rattle.std.proofs.lemmas.Bool.{cases_eq, cases_lt, eqb-true, eq-eqb, ne_eqb}
 use Rattle.std.proofs.lemmas.List.{length-set, length-map, get_or-map, get_or_past}

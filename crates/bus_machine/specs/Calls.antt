@@ -1,7 +1,7 @@
 -- What each call of a machine answers, and what it leaves, by cases on the answer. A fault but NoMemory leaves all as it
 -- was. NoMemory leaves the machine failed; a failed machine answers NoMemory, and nothing else.
-use Rattle.std.specs.Prelude.{◌≡◌, ℕ, ◌<◌, Contains, Bool, true, false, Option, None, Some, Result, Ok, Err}
-use Rattle.tr_types.specs.Machine.{Bus, Answers, IsStored, IsThread, IsGiven, bus_after, with_process, with_thread}
+use Rattle.std.specs.Prelude.{◌≡◌, ℕ, Contains, true, false, None, Result, Ok, Err}
+use Rattle.tr_types.specs.Machine.{Bus, Answers, IsThread, IsGiven, bus_after, with_process, with_thread}
 use Rattle.tr_types.specs.declared.action.Action.{Action}
 use Rattle.tr_types.specs.declared.action.Action.TheVariants.{Load, Store, Pkru, Kernel}
 use Rattle.tr_types.specs.declared.action.Answer.{Answer}

@@ -1,5 +1,5 @@
 -- What ties the parts of a machine together, over plain lists.
-use Rattle.std.specs.Prelude.{◌≡◌, ℕ, ◌<◌, ◌≤◌, List, length, slice_index, Contains, true, false, Some, IsSome}
+use Rattle.std.specs.Prelude.{◌≡◌, ℕ, ◌<◌, ◌≤◌, List, length, slice_index, Contains, true, false, IsSome}
 use Rattle.pm_words.specs.Word.{Word}
 use Rattle.pm_words.specs.Memory.{IsPages}
 use Rattle.zo_layout.specs.Layout.{kernel_pages, root_page}

@@ -96,7 +96,22 @@ impl Machine {
     ///
     /// A load, a store or a new PKRU costs the same whatever the machine holds; a map, an unmap and an
     /// enlarging grow with the coffer's pages and holders.
-    pub fn act(&mut self, thread: u16, now: u32, action: &Action) -> Result<Answer, BusFault>
+    pub fn act(&mut self, thread: u16, _now: u32, action: &Action) -> Result<Answer, BusFault>
+        requires { IsBuilt action.now }
+        ensures { ActsAs self.old self.new thread action.now result }
+    {
+        self.step(thread, action)
+    }
+
+    /// A store that the thread's program didn't mean, under the thread's present rights. `NoThread`
+    /// where the thread wasn't started.
+    pub fn stray(&mut self, thread: u16, addr: u64, word: u64) -> Result<Answer, BusFault>
+        ensures { ActsAs self.old self.new thread (Store addr word) result }
+    {
+        self.step(thread, &Action::Store(addr, word))
+    }
+
+    fn step(&mut self, thread: u16, action: &Action) -> Result<Answer, BusFault>
         requires { IsBuilt action.now }
         ensures { ActsAs self.old self.new thread action.now result }
     {
@@ -107,21 +122,6 @@ impl Machine {
             return Err(BusFault::NoThread);
         }
         let done = self.parts.act(thread, action);
-        noted(&mut self.failed, done)
-    }
-
-    /// A store that the thread's program didn't mean, under the thread's present rights. `NoThread`
-    /// where the thread wasn't started.
-    pub fn stray(&mut self, thread: u16, addr: u64, word: u64) -> Result<Answer, BusFault>
-        ensures { ActsAs self.old self.new thread (Store addr word) result }
-    {
-        if self.failed {
-            return Err(BusFault::NoMemory);
-        }
-        if !self.parts.has_thread(thread) {
-            return Err(BusFault::NoThread);
-        }
-        let done = self.parts.store(thread, addr, word);
         noted(&mut self.failed, done)
     }
 }

@@ -139,8 +139,7 @@ impl Parts {
         }
     }
 
-    /// A store under the thread's present rights.
-    pub fn store(&mut self, thread: u16, addr: u64, word: u64) -> Result<Answer, AllocError>
+    fn store(&mut self, thread: u16, addr: u64, word: u64) -> Result<Answer, AllocError>
         requires tied { AreTied self.old }
         requires started { IsSome (rights.process_of self.old.tables.threads thread) }
         ensures { IfOk result (DoesAct self.old self.new thread (Store addr word)) }

@@ -6,6 +6,7 @@ ghost use Rattle.page_rights.specs.Lookup as lookup;
 ghost use Rattle.page_rights.specs.Tables as tables;
 
 use crate::mapping::Mapping;
+use bitflags::Flags;
 use std::alloc::AllocError;
 use tr_types::{Holder, Right};
 
@@ -33,10 +34,7 @@ pub fn process_of(processes: &[Option<u8>], thread: u16) -> u8
 pub fn is_in(processes: &[Option<u8>], thread: u16, process: u8) -> bool
     ensures { result ≡ lookup.is_in processes.now thread process }
 {
-    match process_at(processes, thread) {
-        Some(own) => own == process,
-        None => false,
-    }
+    process_at(processes, thread) == Some(process)
 }
 
 /// The key that the process has for the coffer.
@@ -69,7 +67,7 @@ pub fn is_writable(processes: &[Option<u8>], holders: &[Holder], process: u8, id
 fn allows_writing(right: Right) -> bool
     ensures { result ≡ rights.allows_writing right }
 {
-    right.0 / 2 % 2 == 1
+    right.contains(Right::WRITE)
 }
 
 /// How the process has the coffer mapped.
@@ -81,13 +79,11 @@ pub fn mapping_of(
 ) -> Option<Mapping>
     ensures { result ≡ lookup.mapping_of processes.now holders.now process id }
 {
-    match key_of(processes, holders, process, id) {
-        Some(key) => Some(Mapping {
-            key,
-            writable: is_writable(processes, holders, process, id),
-        }),
-        None => None,
-    }
+    let key = key_of(processes, holders, process, id)?;
+    Some(Mapping {
+        key,
+        writable: is_writable(processes, holders, process, id),
+    })
 }
 
 /// Whether no thread of the process holds a coffer under the key.

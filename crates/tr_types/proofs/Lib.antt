@@ -4,3 +4,5 @@ pub mod FoldLemmas
 pub mod FreePages
 -- laws of the machine
 pub mod MachineLemmas
+-- laws of the registers before any thread has opened a key
+pub mod Registers

@@ -1,9 +1,9 @@
-use Rattle.std.proofs.Common.{◌≡◌, ℕ, ◌+◌, ◌-◌, ◌<◌, ◌≤◌, List, length, Some, sym, ap, subst, ◌∙◌, refl, arith, map, take, true}
+use Rattle.std.proofs.Common.{◌≡◌, ℕ, ◌+◌, ◌<◌, ◌≤◌, List, sym, ap, subst, ◌∙◌, refl, arith, true}
 use Rattle.std.specs.Prelude.{All}
 use Rattle.std.specs.List.{range_with_len}
 use Rattle.pm_words.specs.Word.{Word}
 use Rattle.zo_layout.specs.Layout.{kernel_pages}
-use Rattle.tr_types.specs.KernelView.{given_to, free_pages}
+use Rattle.tr_types.specs.KernelView.{given_to}
 use Rattle.tr_types.specs.Rights.{is_held}
 use Rattle.page_rights.specs.Tables.{View, MayStand, with_owners, with_pages}
 use Rattle.bus_machine.specs.Parts.{bus_of}
@@ -70,10 +70,10 @@ returns c =
       after = λ i. record { words = words i; processes = (bus_of self).processes; threads = (told i).threads; holders = (told i).holders; pkrus = self.pkrus.items };
       tied = record {
         owners = subst (λ (ws : List Word). HasOwners ws self.pages (self.first_free + c.args.count)) (sym (given ∙ ap (λ (id : ℕ). given_to id (range_with_len self.first_free c.args.count) self.words) root))
-        (owners_given self.words self.pages self.first_free c.args.count tied.owners fits);
+            (owners_given self.words self.pages self.first_free c.args.count tied.owners fits);
         told = subst (λ (t : View). AreTold self.pages (self.first_free + c.args.count) t.holders t.owners) (sym told)
-        (subst (λ (id : ℕ). AreTold self.pages (self.first_free + c.args.count) self.tables.holders (with_pages id (range_with_len self.first_free c.args.count) self.tables.owners)) (sym root)
-        (told_grown self.pages self.first_free c.args.count self.tables.holders self.tables.owners tied.told order fits root_held));
+            (subst (λ (id : ℕ). AreTold self.pages (self.first_free + c.args.count) self.tables.holders (with_pages id (range_with_len self.first_free c.args.count) self.tables.owners)) (sym root)
+            (told_grown self.pages self.first_free c.args.count self.tables.holders self.tables.owners tied.told order fits root_held));
         small = subst (λ (t : View). AreSmall (bus_of self).processes t.threads self.pkrus.items) (sym told) tied.small;
       };
     }

@@ -1,4 +1,4 @@
-use Rattle.std.proofs.Common.{Bool, List, ap, ◌∙◌}
+use Rattle.std.proofs.Common.{List, ap, ◌∙◌}
 use Rattle.tr_types.specs.declared.kernel_call.Holder.{Holder}
 use Rattle.tr_types.specs.Machine.{holds_to_write}
 use Rattle.bus_machine.proofs.Holding.{writes_rows}

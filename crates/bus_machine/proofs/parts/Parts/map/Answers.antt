@@ -1,4 +1,4 @@
-use Rattle.std.proofs.Common.{◌≡◌, ℕ, ◌+◌, ◌-◌, ◌≤◌, List, Some, Err, sym, ap, subst, ◌∙◌, refl, arith, map}
+use Rattle.std.proofs.Common.{ℕ, ◌-◌, ◌≤◌, List, Some, Err, sym, ap, subst, ◌∙◌, refl, arith}
 use Rattle.std.specs.Prelude.{All}
 use Rattle.std.specs.List.{range_with_len}
 use Rattle.zo_layout.specs.Layout.{kernel_pages}
@@ -53,7 +53,7 @@ returns-in-Ok c =
       tied = record {
         owners = tied.owners;
         told = subst (λ (t : View). AreTold self.pages self.first_free t.holders t.owners) (sym told)
-        (told_mapped self.pages self.first_free (record { thread = c.args.thread; id = 1; key = c.in-Ok.key; right = c.args.right; exclusive = c.args.exclusive }) self.tables.holders self.tables.owners tied.told order most refl);
+            (told_mapped self.pages self.first_free (record { thread = c.args.thread; id = 1; key = c.in-Ok.key; right = c.args.right; exclusive = c.args.exclusive }) self.tables.holders self.tables.owners tied.told order most refl);
         small = subst (λ (t : View). AreSmall (bus_of self).processes t.threads self.pkrus.items) (sym done) tied.small;
       };
     }

@@ -1,4 +1,4 @@
-use Rattle.std.proofs.Common.{ℕ, List, subst, sym, map}
+use Rattle.std.proofs.Common.{ℕ, subst, sym, map}
 use Rattle.std.proofs.lemmas.Result.{on_ok_weaker}
 use Rattle.tr_types.specs.declared.permission.Cred.{Cred}
 use Rattle.page_rights.specs.Tables.{View}

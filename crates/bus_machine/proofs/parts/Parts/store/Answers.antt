@@ -1,4 +1,4 @@
-use Rattle.std.proofs.Common.{ℕ, List, sym, ap, subst, ◌∙◌}
+use Rattle.std.proofs.Common.{List, sym, subst, ◌∙◌}
 use Rattle.pm_words.specs.Word.{Word}
 use Rattle.bus_machine.specs.Parts.{bus_of}
 use Rattle.bus_machine.specs.Ties.{HasOwners}

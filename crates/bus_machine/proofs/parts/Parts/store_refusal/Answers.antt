@@ -1,6 +1,5 @@
-use Rattle.std.proofs.Common.{ℕ, ◌/◌, Option, sym, ap, ◌∙◌}
+use Rattle.std.proofs.Common.{ℕ, ◌/◌, sym, ap, ◌∙◌}
 use Rattle.std.specs.Prelude.{slice_index}
-use Rattle.tr_types.specs.declared.action.FaultKind.{FaultKind}
 use Rattle.tr_types.specs.Rights.{store_fault}
 use Rattle.bus_machine.specs.Parts.{bus_of}
 use Rattle.bus_machine.proofs.Accesses.{told_store, page_inside, store_by_rights}

@@ -1,4 +1,4 @@
-use Rattle.std.proofs.Common.{◌≡◌, ℕ, List, sym, ap, subst, ◌∙◌, map}
+use Rattle.std.proofs.Common.{sym, ap, subst, ◌∙◌}
 use Rattle.page_rights.specs.Tables.{View}
 use Rattle.bus_machine.specs.Parts.{bus_of}
 use Rattle.bus_machine.specs.Ties.{AreTold, AreSmall}
