@@ -11,16 +11,17 @@ pub data Slot : Type 0 where
   FirstWord : Slot
   Size : Slot
   NewProcess : Slot
-  -- a uid or a gid
+  -- a uid or a gid, 0 alone for now
   Zero : Slot
   NewThread : Slot
   KnownProcess : Slot
   KnownThread : Slot
   StrayThread : Slot
   CommandWord : Slot
-  -- a path of one name
+  -- a path of one name, which a file can have
   FilePath : Slot
   AnyPath : Slot
+  -- 666 alone for now
   FileMode : Slot
   Address : Slot
   Number : Slot

@@ -10,6 +10,7 @@ use super::place::Fault;
 use super::seen::Seen;
 use super::spelling::{address_word, is_path, is_path_of_one, number_word, size_word};
 use super::words::Words;
+
 /// The mode that a new file has for now, and how it is written.
 const FILE_MODE: u16 = 0o666;
 

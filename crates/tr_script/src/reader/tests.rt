@@ -242,8 +242,9 @@ fn lines_of_a_call_and_a_stray_store(rt: HostRuntime) -> Result<(), ScriptFault>
     let text =
         "mkfs 64\nprocess p1 0 0\nthread t1 p1\nthread t9 p1\ncall t9 stat /b\nopen t9\nstray t1 67108856 18446744073709551615\nfinish t9\n";
     let script = read_script(rt.alloc(), text.as_bytes())?;
-    match &script.lines()[4..] {
+    match script.lines() {
         [
+            ..,
             Line::Call {
                 thread: 8,
                 command: Command::Stat { path },

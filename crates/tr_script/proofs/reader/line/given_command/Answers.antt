@@ -7,4 +7,6 @@ use Rattle.tr_script.proofs.reader.line.given_command.Goals as goal
 pub returns-in_err-command-clause-bad : goal.returns-in_err-command-clause-bad
 returns-in_err-command-clause-bad c =
     let taken-1 = c.in_ok-thread.ensures.ok in
-    passed c.from_residual-in_err-command.result c.in_err-command.field-0.0 c.from_residual-in_err-command.ensures.1 (λ place bad. behind place c.args.seen.now KnownThread (CommandWord ∷ []) c.args.words.now c.known_thread.new.words taken-1.0 (c.in_ok-thread.thread, refl, taken-1.1, taken-1.2) (bad c.args.seen.now)) c.in_err-command.ensures.bad
+    passed c.from_residual-in_err-command.result c.in_err-command.field-0.0 c.from_residual-in_err-command.ensures.1
+    (λ place bad. behind place c.args.seen.now KnownThread (CommandWord ∷ []) c.args.words.now c.known_thread.new.words taken-1.0 (c.in_ok-thread.thread, refl, taken-1.1, taken-1.2)
+    (bad c.args.seen.now)) c.in_err-command.ensures.bad
