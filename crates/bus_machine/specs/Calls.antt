@@ -1,7 +1,7 @@
 -- What each call of a machine answers, and what it leaves, by cases on the answer. A fault but NoMemory leaves all as it
 -- was. NoMemory leaves the machine failed; a failed machine answers NoMemory, and nothing else.
 use Rattle.std.specs.Prelude.{◌≡◌, ℕ, Contains, true, false, None, Result, Ok, Err}
-use Rattle.tr_types.specs.Machine.{Bus, Answers, IsThread, IsGiven, bus_after, with_process, with_thread}
+use Rattle.tr_types.specs.Machine.{Bus, Answers, IsThread, bus_after, with_process, with_thread}
 use Rattle.tr_types.specs.declared.action.Action.{Action}
 use Rattle.tr_types.specs.declared.action.Action.TheVariants.{Load, Store, Pkru, Kernel}
 use Rattle.tr_types.specs.declared.action.Answer.{Answer}
@@ -10,22 +10,6 @@ use Rattle.tr_types.specs.declared.kernel_call.Kcall.TheVariants.{Find, Map, Unm
 use Rattle.bus_machine.specs.View.{MachineView}
 use Rattle.bus_machine.specs.declared.fault.BusFault.{BusFault}
 use Rattle.bus_machine.specs.declared.fault.BusFault.TheVariants.{NoThread, NoProcess, Started, NoMemory}
-
--- Which actions can be given. A map asks for Read or for Write alone, a find for one path.
-
-abbrev pub IsBuiltCall : Kcall → Type 0
-IsBuiltCall (Find path None) = Unit {0}
-IsBuiltCall (Map path right exclusive) = IsGiven right
-IsBuiltCall (Unmap id) = Unit {0}
-IsBuiltCall (Enlarge id count) = Unit {0}
-IsBuiltCall call = ⊥
-
-abbrev pub IsBuilt : Action → Type 0
-IsBuilt (Load addr) = Unit {0}
-IsBuilt (Store addr word) = Unit {0}
-IsBuilt (Pkru pkru) = Unit {0}
-IsBuilt (Kernel call) = IsBuiltCall call
-IsBuilt action = ⊥
 
 -- the call is done: the machine hadn't failed, and hasn't
 abbrev pub with_bus : Bus → MachineView

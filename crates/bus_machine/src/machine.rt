@@ -5,7 +5,8 @@ ghost use Rattle.tr_types.specs.NewImage.{new_image};
 ghost use Rattle.tr_types.specs.KernelView.{pages_of};
 ghost use Rattle.tr_types.specs.Machine.{bus_over};
 ghost use Rattle.tr_types.specs.declared.action.Action.TheVariants.{Store};
-ghost use Rattle.bus_machine.specs.Calls.{IsBuilt, StartsProcess, StartsThread, ActsAs};
+ghost use Rattle.tr_types.specs.Machine.{IsBuilt};
+ghost use Rattle.bus_machine.specs.Calls.{StartsProcess, StartsThread, ActsAs};
 
 use crate::BusFault;
 use crate::parts::Parts;

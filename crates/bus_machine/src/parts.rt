@@ -9,7 +9,8 @@ ghost use Rattle.tr_types.specs.Machine as spec;
 ghost use Rattle.tr_types.specs.declared.action.Action.TheVariants.{Store, Pkru as SetPkru};
 ghost use Rattle.tr_types.specs.declared.kernel_call.Kcall.TheVariants.{Map, Unmap, Enlarge};
 ghost use Rattle.tr_types.specs.declared.kernel_call.KernAnswer.TheVariants.{Found};
-ghost use Rattle.bus_machine.specs.Calls.{IsBuilt, IsBuiltCall};
+ghost use Rattle.tr_types.specs.Commands.{IsPath};
+ghost use Rattle.tr_types.specs.Machine.{IsBuilt, IsBuiltCall};
 ghost use Rattle.bus_machine.specs.Parts.{bus_of, AreTied, DoesAct, DoesCall, mapped_in};
 
 use crate::pages::{give, page_list};
@@ -226,7 +227,7 @@ impl Parts {
         requires tied { AreTied self.old }
         requires started { IsSome (rights.process_of self.old.tables.threads thread) }
         requires given { spec.IsGiven right }
-        ensures { IfOk result (λ answer. (path : List ℕ) → DoesCall self.old self.new thread (Map path right exclusive) answer) }
+        ensures { IfOk result (λ answer. (path : List ℕ) → IsPath path → DoesCall self.old self.new thread (Map path right exclusive) answer) }
     {
         let first = kernel_pages(self.pages);
         let pages = self.first_free - first;

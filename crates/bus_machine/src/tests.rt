@@ -3,7 +3,7 @@ ghost use Rattle.pm_words.specs.Memory.{all_durable};
 ghost use Rattle.tr_types.specs.NewImage as image;
 ghost use Rattle.tr_types.specs.KernelView.{pages_of};
 ghost use Rattle.tr_types.specs.Machine.{IsGiven};
-ghost use Rattle.bus_machine.specs.Calls.{IsBuiltCall};
+ghost use Rattle.tr_types.specs.Machine.{IsBuiltCall};
 
 use super::*;
 use pm_words::{Image, Words};

@@ -47,8 +47,8 @@ returns-in-Ok c =
     let told = done ∙ ap (λ (l : List ℕ). mapped (record { thread = c.args.thread; id = 1; key = c.in-Ok.key; right = c.args.right; exclusive = c.args.exclusive }) l self.tables) list in
     let rows = ap (λ (t : View). t.holders) done
     ∙ ap (λ (m : Mapped). with_row (record { thread = c.args.thread; id = m.id; key = m.key; right = c.args.right; exclusive = c.args.exclusive }) self.tables.holders) (sym is) in
-    λ path. record {
-      answers = (c.requires.given, (c.in-Ok.ensures.free, c.in-Ok.ensures.key ∙ ap (λ (k : ℕ). Some k) (sym key), is ∙ ap (λ (k : ℕ). root_mapped self.words k) (sym key)));
+    λ path is_path. record {
+      answers = (is_path, c.requires.given, (c.in-Ok.ensures.free, c.in-Ok.ensures.key ∙ ap (λ (k : ℕ). Some k) (sym key), is ∙ ap (λ (k : ℕ). root_mapped self.words k) (sym key)));
       after = λ i. record { words = self.words; processes = (bus_of self).processes; threads = (done i).threads; holders = rows i; pkrus = self.pkrus.items };
       tied = record {
         owners = tied.owners;
@@ -64,8 +64,8 @@ returns-in-Err-InUse c =
     let tied = c.requires.tied in
     let same = c.in-Err-InUse.ensures.err in
     let least = (c.in-Err-InUse.ensures.in_use c.in-Err-InUse.other).0 (ap (λ (f : MapFault). Err f) c.in-Err-InUse.field-0-is) in
-    λ path. record {
-      answers = (c.requires.given, (least, refl, refl));
+    λ path is_path. record {
+      answers = (is_path, c.requires.given, (least, refl, refl));
       after = λ i. record { words = self.words; processes = (bus_of self).processes; threads = (same i).threads; holders = (same i).holders; pkrus = self.pkrus.items };
       tied = record {
         owners = tied.owners;
