@@ -21,8 +21,8 @@ all_read text read (Some rest) short r =
     let few : length read < text_limit + 1 = omega (arith, ap length r.taken, length-append read rest) in
     sym (r.taken ∙ ap (λ (l : List ℕ). read ++ l) (r.end few) ∙ append-nil read)
 
-no_refusal : (text : List ℕ) (lines : List Line) (left rest : Option (List ℕ)) → left ≡ Some text → IsScript text lines → ReadsNoScript left rest → ⊥
-no_refusal text lines left rest known script n =
+no_refusal : (text : List ℕ) (lines : List Line) (left rest : Option (List ℕ)) (line column : ℕ) → left ≡ Some text → IsScript text lines → ReadsNoScript left rest line column → ⊥
+no_refusal text lines left rest line column known script n =
     let read = all_read text n.text rest script.size (subst (λ l. ReadsUpTo (text_limit + 1) l rest n.text) known n.read) in
     n.none lines (subst (λ (t : List ℕ). IsScript t lines) (sym read) script)
 
@@ -31,7 +31,7 @@ completes words before after Done trace text lines a form known script none = tt
 completes words before after NoMemory trace text lines a form known script none = tt
 completes words before after Full trace text lines a form known script none = (a.ends.0, a.ends.1, a.ends.2.full, a.ends.2.due)
 completes words before after Usage trace text lines a form known script none = absurd (a.usage.0 refl form)
-completes words before after (BadScript line column) trace text lines a form known script none = absurd (no_refusal text lines before.script_left after.script_left known script a.ends.1)
+completes words before after (BadScript line column) trace text lines a form known script none = absurd (no_refusal text lines before.script_left after.script_left line column known script a.ends.1)
 completes words before after ReadFault trace text lines a form known script none = absurd (no_rise before.script_faults after.script_faults none.script.0 none.script.1 a.ends.1)
 completes words before after WriteFault trace text lines a form known script none = by a.ends.2
   where

@@ -1,5 +1,5 @@
 -- How a run ends, from how its parts ended.
-use Rattle.std.proofs.Common.{◌≡◌, ℕ, List, [], ◌∷◌, length, get_or, refl, sym, ap, subst, ◌∙◌, arith, inl, inr, append-nil, Option, Some, None, Ok, Err, Bool, IsTrue, ◌↔◌}
+use Rattle.std.proofs.Common.{◌≡◌, ℕ, ◌+◌, List, [], ◌∷◌, length, get_or, refl, sym, ap, subst, ◌∙◌, arith, inl, inr, append-nil, Option, Some, None, Ok, Err, Bool, IsTrue, ◌↔◌}
 use Rattle.std.specs.Io.KnownBytes.{Appends, Keeps}
 use Rattle.std.specs.Cmp.Lexicographic.{pointwise}
 use Rattle.std.proofs.Common.{eqb}
@@ -9,7 +9,7 @@ use Rattle.pm_words.specs.Word.{Word}
 use Rattle.pm_words.specs.Memory.{present_values}
 use Rattle.tr_types.specs.declared.entry.Entry.{Entry}
 use Rattle.tr_outside.specs.ImageBytes.{image_bytes}
-use Rattle.tr_outside.specs.Whole.{AppendsFront}
+use Rattle.tr_outside.specs.Whole.{AppendsFront, ReadsUpTo}
 use Rattle.bus_machine.specs.View.{MachineView}
 use Rattle.tr_types.specs.Machine.{Bus}
 use Rattle.tr_top.specs.declared.log.Stop.{Stop}
@@ -18,10 +18,15 @@ use Rattle.tr_script.specs.declared.script.Line.{Line}
 use Rattle.tr_script.specs.declared.status.Status.{Status}
 use Rattle.tr_script.specs.declared.status.Status.TheVariants.{Done, Usage, BadScript, ReadFault, WriteFault, NoMemory, Full}
 use Rattle.tr_top.specs.Along.{IsAtEnd}
+use Rattle.tr_script.specs.declared.reader.ScriptFault.{ScriptFault}
+use Rattle.tr_script.specs.declared.reader.ScriptFault.TheVariants.{BadLine}
+use Rattle.tr_script.specs.Grammar.{IsScript, text_limit}
+use Rattle.tr_script.specs.Places.{IsFirstBad}
+use Rattle.tr_script.specs.Reading.{OnBadLine}
 use Rattle.tr_script.specs.Text.{brief_texts}
 use Rattle.tr_top.specs.Run.{place_after}
 use Rattle.tr_top.specs.Running.{IsTied, Goes}
-use Rattle.tr_top.specs.Top.{Sinks, RunEnds}
+use Rattle.tr_top.specs.Top.{Sinks, RunEnds, ReadsNoScript}
 use Rattle.tr_top.specs.Ending.{IsSaved, stop_status}
 
 abbrev sinks_of : Option (List ℕ) → ℕ → Option (List ℕ) → ℕ → Sinks
@@ -94,3 +99,13 @@ is_the_word words text run r one is =
   where
     first : text ∷ [] ≡ run ∷ [] → text ≡ run
     first e = cc
+
+-- a text that was read and isn't a script, by its first bad place
+pub no_script : (left rest : Option (List ℕ)) (text now : List ℕ) (fault : ScriptFault) (line column : ℕ) → now ≡ text → ReadsUpTo (text_limit + 1) left rest text → fault ≡ BadLine line column
+    → OnBadLine {T = List Line} (Err fault) (λ _ _. (lines : List Line) → IsScript now lines → ⊥) → OnBadLine {T = List Line} (Err fault) (IsFirstBad now) → ReadsNoScript left rest line column
+no_script left rest text now fault line column same read is refused place = record {
+  text = text;
+  read = read;
+  none = subst (λ (t : List ℕ). (lines : List Line) → IsScript t lines → ⊥) same (subst (λ (f : ScriptFault). OnBadLine {T = List Line} (Err f) (λ _ _. (lines : List Line) → IsScript now lines → ⊥)) is refused);
+  place = subst (λ (t : List ℕ). IsFirstBad t line column) same (subst (λ (f : ScriptFault). OnBadLine {T = List Line} (Err f) (IsFirstBad now)) is place);
+}

@@ -17,7 +17,7 @@ stop_status stop.OutFailed = WriteFault
 -- why no script was read
 abbrev pub IsRefusal : Option (List ℕ) → Option (List ℕ) → ℕ → ℕ → Status → Type 0
 IsRefusal left rest before after ReadFault = Rose before after
-IsRefusal left rest before after (BadScript line column) = ReadsNoScript left rest × (1 ≤ line) × (1 ≤ column)
+IsRefusal left rest before after (BadScript line column) = ReadsNoScript left rest line column
 IsRefusal left rest before after NoMemory = Unit {0}
 IsRefusal left rest before after status = ⊥
 

@@ -9,6 +9,7 @@ use Rattle.tr_script.specs.declared.script.Line.{Line}
 use Rattle.tr_script.specs.declared.status.Status.{Status}
 use Rattle.tr_script.specs.declared.status.Status.TheVariants.{Done, Usage, BadScript, ReadFault, WriteFault, NoMemory, Full}
 use Rattle.tr_script.specs.Grammar.{IsScript, text_limit}
+use Rattle.tr_script.specs.Places.{IsFirstBad}
 use Rattle.tr_top.specs.Along.{IsAtEnd}
 use Rattle.tr_script.specs.Text.{brief_texts}
 use Rattle.tr_top.specs.Run.{IsRun, trace_limit, place_after, last_words}
@@ -102,11 +103,13 @@ pub record ReadsScript (left rest : Option (List ℕ)) (lines : List Line) : Typ
   pub end : IsAtEndOfBytes rest
   pub script : IsScript text lines
 
--- the text is no script: all bytes that the source had left, or one more than a script may have
-pub record ReadsNoScript (left rest : Option (List ℕ)) : Type 0 where
+-- the text is no script: all bytes that the source had left, or one more than a script may have; and this is its first
+-- bad place
+pub record ReadsNoScript (left rest : Option (List ℕ)) (line column : ℕ) : Type 0 where
   pub text : List ℕ
   pub read : ReadsUpTo (text_limit + 1) left rest text
   pub none : (lines : List Line) → IsScript text lines → ⊥
+  pub place : IsFirstBad text line column
 
 -- no run began: the trace is empty, and nothing was written
 pub record BeginsNothing (before after : Sinks) (trace : List Entry) : Type 0 where
@@ -121,7 +124,7 @@ Runs before after status trace =
 -- What the call has done that ended with a status and a trace.
 abbrev pub Ends : Outside → Outside → Status → List Entry → Type 0
 Ends before after Usage trace = BeginsNothing before.sinks after.sinks trace × (after.script_left ≡ before.script_left) × (after.script_faults ≡ before.script_faults)
-Ends before after (BadScript line column) trace = BeginsNothing before.sinks after.sinks trace × ReadsNoScript before.script_left after.script_left × (1 ≤ line) × (1 ≤ column)
+Ends before after (BadScript line column) trace = BeginsNothing before.sinks after.sinks trace × ReadsNoScript before.script_left after.script_left line column
 Ends before after ReadFault trace =
     BeginsNothing before.sinks after.sinks trace × Rose before.script_faults after.script_faults
 Ends before after NoMemory trace = BeginsNothing before.sinks after.sinks trace ⊎ Runs before after NoMemory trace
