@@ -1,12 +1,9 @@
 -- What each call of a machine answers, and what it leaves, by cases on the answer. A fault but NoMemory leaves all as it
 -- was. NoMemory leaves the machine failed; a failed machine answers NoMemory, and nothing else.
-use Rattle.std.specs.Prelude.{◌≡◌, ℕ, Contains, true, false, None, Result, Ok, Err}
+use Rattle.std.specs.Prelude.{◌≡◌, ℕ, Contains, true, false, Result, Ok, Err}
 use Rattle.tr_types.specs.Machine.{Bus, Answers, IsThread, bus_after, with_process, with_thread}
 use Rattle.tr_types.specs.declared.action.Action.{Action}
-use Rattle.tr_types.specs.declared.action.Action.TheVariants.{Load, Store, Pkru, Kernel}
 use Rattle.tr_types.specs.declared.action.Answer.{Answer}
-use Rattle.tr_types.specs.declared.kernel_call.Kcall.{Kcall}
-use Rattle.tr_types.specs.declared.kernel_call.Kcall.TheVariants.{Find, Map, Unmap, Enlarge}
 use Rattle.bus_machine.specs.View.{MachineView}
 use Rattle.bus_machine.specs.declared.fault.BusFault.{BusFault}
 use Rattle.bus_machine.specs.declared.fault.BusFault.TheVariants.{NoThread, NoProcess, Started, NoMemory}

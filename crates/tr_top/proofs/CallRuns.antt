@@ -1,27 +1,18 @@
 -- What holds while turns of a call are made.
-use Rattle.std.proofs.Common.{◌≡◌, ◌≢◌, ◌⊎◌, inl, inr, ℕ, ◌≤◌, ◌<◌, List, [], ◌∷◌, length, Bool, true, false, cond, ne_eqb, Option, Some, None, Ok, Err, refl, sym, ap, subst, ◌∙◌, arith}
-use Rattle.std.specs.declared.result.Result.{Result}
-use Rattle.std.specs.Io.KnownBytes.{Appends}
+use Rattle.std.proofs.Common.{◌≡◌, ◌≢◌, ℕ, List, ◌∷◌, Bool, true, false, cond, ne_eqb, Option, Some, None, Ok, refl, sym, ap, ◌∙◌}
 use Rattle.tr_types.specs.Machine.{Machine}
-use Rattle.tr_types.specs.World.{World}
 use Rattle.tr_types.specs.declared.entry.Entry.{Entry}
-use Rattle.tr_types.specs.declared.entry.Mark.{Mark}
 use Rattle.tr_types.specs.declared.entry.Mark.TheVariants as mark
 use Rattle.bus_machine.specs.View.{MachineView}
-use Rattle.tr_outside.specs.Causes.{Rose}
-use Rattle.tr_script.specs.Grammar.{Declared, declared, calling_behind, MayStand}
+use Rattle.tr_script.specs.Grammar.{Declared, declared, calling_behind}
 use Rattle.tr_script.specs.declared.script.Line.{Line}
 use Rattle.tr_script.specs.declared.script.Line.TheVariants.{Finish, Open}
-use Rattle.tr_top.specs.declared.log.Stop.{Stop}
-use Rattle.tr_top.specs.declared.log.Stop.TheVariants.{Full, NoMemory, OutFailed}
 use Rattle.tr_top.specs.declared.runner.RunningCall.{RunningCall}
-use Rattle.tr_top.specs.declared.runner.Turned.{Turned}
 use Rattle.tr_top.specs.declared.runner.Turned.TheVariants.{Acted, Ended}
-use Rattle.tr_top.specs.Along.{Place, Turns, Resting, ToTheEnd, ToAnOpening, Running, is_running, before, place_at, after_action}
+use Rattle.tr_top.specs.Along.{Place, Turns, ToAnOpening, Running, is_running, before, after_action}
 use Rattle.tr_top.specs.Run.{world_after, place_after}
-use Rattle.tr_top.specs.Running.{Goes, IsTied, IsBefore, IsLike, IsOfThread, Passes, Stands, StandsTurned, TurnsTo, WhoStays}
-use Rattle.tr_top.proofs.PlaceLemmas.{before_running, before_dir, stands_before, is_its, is_anothers, is_nobodys, finish_here, finish_past, open_here, open_past, action_kept}
-use Rattle.tr_top.proofs.RunLemmas.{goes_then, goes_still}
+use Rattle.tr_top.specs.Running.{Goes, IsTied, IsLike, IsOfThread, Passes, Stands, TurnsTo, WhoStays}
+use Rattle.tr_top.proofs.PlaceLemmas.{before_running, before_dir, stands_before, is_its, is_anothers, is_nobodys, finish_here, finish_past, open_here, open_past}
 
 -- who lives stays, and what has begun has
 pub record WhoKept (old new : Machine) : Type 0 where

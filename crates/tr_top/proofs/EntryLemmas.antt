@@ -1,5 +1,5 @@
 -- One more entry of a run, with the machine after it.
-use Rattle.std.proofs.Common.{◌≡◌, ℕ, ◌≤◌, ◌<◌, List, [], ◌∷◌, ◌++◌, length, refl, sym, ap, subst, ◌∙◌, arith, Option, Ok, Err, false, OnOk}
+use Rattle.std.proofs.Common.{◌≡◌, ℕ, ◌≤◌, ◌<◌, List, [], ◌∷◌, ◌++◌, length, refl, sym, ap, subst, ◌∙◌, arith, Option, false, OnOk}
 use Rattle.std.specs.declared.result.Result.{Result}
 use Rattle.tr_types.specs.KernelView.{pages_of}
 use Rattle.tr_types.specs.Machine.{Bus, Answers, IsThread, HasRegisters, bus_after, bus_moved}

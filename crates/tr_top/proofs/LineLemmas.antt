@@ -1,9 +1,7 @@
 -- What each line of a script leaves: where the script stands, and what has been started.
-use Rattle.std.proofs.Common.{◌≡◌, ◌≢◌, ℕ, List, [], ◌∷◌, ◌++◌, map, Bool, true, false, cond, Option, Some, None, Contains, refl, sym, ap, subst, ◌∙◌, eq-eqb, ◌==◌}
+use Rattle.std.proofs.Common.{◌≡◌, ℕ, List, [], ◌∷◌, ◌++◌, Bool, true, false, cond, Option, Some, None, refl, sym, ap, subst, ◌∙◌, eq-eqb}
 use Rattle.zo_layout.specs.Layout.{page_at, root_page}
-use Rattle.tr_types.specs.Machine.{Machine, IsThread}
 use Rattle.tr_types.specs.World.{World, stepped}
-use Rattle.tr_types.specs.declared.action.Answer.{Answer}
 use Rattle.tr_types.specs.declared.action.Answer.TheVariants.{Fault}
 use Rattle.tr_types.specs.declared.action.FaultKind.{FaultKind}
 use Rattle.tr_types.specs.declared.command.Command.{Command}
@@ -13,9 +11,9 @@ use Rattle.tr_types.specs.declared.permission.Cred.{Cred}
 use Rattle.tr_script.specs.Grammar.{Declared, declared, calling_behind, MayStand}
 use Rattle.tr_script.specs.declared.script.Line.{Line}
 use Rattle.tr_script.specs.declared.script.Line.TheVariants.{Mkfs, Process, Thread, Call, Do, Finish, Open, Stray}
-use Rattle.tr_top.specs.Along.{Place, Turns, ToTheEnd, Running, MayFollow, IsFirstOf, rest, before, behind_call, followed, place_at, is_running}
+use Rattle.tr_top.specs.Along.{Place, ToTheEnd, Running, MayFollow, rest, before, behind_call, followed, place_at}
 use Rattle.tr_top.specs.Run.{pages_made, world_after, place_after}
-use Rattle.tr_top.specs.Running.{IsLike, IsBefore, Passes, WhoStays}
+use Rattle.tr_top.specs.Running.{IsLike, IsBefore, Passes}
 use Rattle.tr_top.proofs.PlaceLemmas.{before_running, before_dir, stands_before, finish_here, is_its}
 use Rattle.tr_top.proofs.RunLemmas.{world_more, place_more}
 

@@ -1,5 +1,5 @@
 -- What holds between two lines of a script that runs.
-use Rattle.std.proofs.Common.{◌≡◌, ℕ, ◌+◌, ◌≤◌, ◌<◌, List, [], ◌∷◌, length, take, drop, get_or, Option, None, Ok, Bool, true, false, zero, refl, sym, ap, subst, ◌∙◌, arith, suc}
+use Rattle.std.proofs.Common.{◌≡◌, ℕ, ◌+◌, ◌<◌, List, [], ◌∷◌, length, take, drop, get_or, Option, Ok, Bool, true, false, zero, refl, sym, ap, subst, ◌∙◌, arith, suc}
 use Rattle.std.proofs.lemmas.List.{take_more, drop_more}
 use Rattle.tr_types.specs.Fold.{Each, state_after}
 use Rattle.tr_types.proofs.FoldLemmas.{state_after_more}
@@ -9,9 +9,9 @@ use Rattle.tr_script.specs.declared.script.Line.{Line}
 use Rattle.tr_script.specs.declared.script.Line.TheVariants.{Mkfs, Process, Thread, Call, Do, Finish, Open, Stray}
 use Rattle.tr_script.specs.Grammar.{Declared, declared, nothing_declared, MayStand}
 use Rattle.tr_top.specs.declared.runner.RunningCall.{RunningCall}
-use Rattle.tr_top.specs.Along.{Place, before}
+use Rattle.tr_top.specs.Along.{before}
 use Rattle.tr_top.specs.Run.{world_after, place_after, pages_made}
-use Rattle.tr_top.specs.Running.{IsTied, Goes, IsLike, IsBefore, IsNextLine, Passes, Stands, declared_by}
+use Rattle.tr_top.specs.Running.{IsTied, Goes, IsLike, IsNextLine, Passes, Stands, declared_by}
 use Rattle.tr_top.proofs.RunLemmas.{goes_then}
 
 -- the first i lines are done

@@ -1,13 +1,11 @@
 -- The lines that give one entry: the entry may come, and calls stand after it as before.
-use Rattle.std.proofs.Common.{◌≡◌, ◌≢◌, ◌⊎◌, inl, inr, ℕ, ◌<◌, ◌≤◌, List, [], ◌∷◌, ◌++◌, length, map, Bool, true, false, Option, Some, None, Contains, Ok, refl, sym, ap, subst, ◌∙◌, arith}
-use Rattle.std.proofs.lemmas.Bool.{cases_eq}
+use Rattle.std.proofs.Common.{◌≡◌, ℕ, ◌≤◌, List, [], ◌∷◌, ◌++◌, false, Option, Some, None, Contains, refl, sym, ap, subst, ◌∙◌}
 use Rattle.pm_words.specs.Memory.{present_values}
 use Rattle.pm_words.proofs.WordLemmas.{present_all_durable}
 use Rattle.zo_layout.specs.Layout.{page_at, root_page}
 use Rattle.tr_types.specs.KernelView.{pages_of}
 use Rattle.tr_types.specs.NewImage.{new_image}
-use Rattle.tr_types.specs.Machine.{Bus, IsThread, IsStored, with_process, with_thread, bus_after, bus_over, pkru_of}
-use Rattle.tr_types.specs.Rights.{closed_pkru}
+use Rattle.tr_types.specs.Machine.{Bus, IsThread, IsStored, with_process, with_thread, bus_after}
 use Rattle.tr_types.specs.World.{World, stepped, MayCome}
 use Rattle.tr_types.specs.declared.action.Action.TheVariants.{Store}
 use Rattle.tr_types.specs.declared.action.Answer.{Answer}
@@ -20,17 +18,16 @@ use Rattle.tr_types.specs.declared.permission.Cred.{Cred}
 use Rattle.bus_machine.specs.View.{MachineView}
 use Rattle.bus_machine.specs.Calls.{with_bus}
 use Rattle.tr_dispatch.proofs.SessionLaws.{stray_refused, bare_keys, knows_keys}
-use Rattle.tr_script.specs.Grammar.{Declared, MayStand}
 use Rattle.tr_script.specs.declared.script.Line.{Line}
 use Rattle.tr_script.specs.declared.script.Line.TheVariants.{Mkfs, Process, Thread, Stray}
 use Rattle.tr_top.specs.declared.runner.RunningCall.{RunningCall}
-use Rattle.tr_top.specs.Along.{Place, Running, MayFollow, before, followed, rest}
+use Rattle.tr_top.specs.Along.{Place, MayFollow, followed, rest}
 use Rattle.tr_top.specs.Run.{pages_made, opening, world_after, place_after}
-use Rattle.tr_top.specs.Running.{IsTied, IsAside, IsSound, IsQuiet, IsAtTurn, Stands, StandsAs, IsNextLine, IsBefore, Passes, declared_by, answer_to}
+use Rattle.tr_top.specs.Running.{IsTied, IsAside, IsSound, Stands, StandsAs, IsNextLine, Passes, answer_to}
 use Rattle.tr_top.proofs.PlaceLemmas.{before_running, before_dir}
 use Rattle.tr_top.proofs.EntryLemmas.{Adds}
 use Rattle.tr_top.proofs.StandLemmas.{quiet_seen, stands_seen, stands_sound, stands_added, sees_mkfs, sees_process, sees_thread, sees_fault}
-use Rattle.tr_top.proofs.LineLemmas.{next_follows, passes_mkfs, passes_process, passes_thread, passes_fault}
+use Rattle.tr_top.proofs.LineLemmas.{next_follows, passes_mkfs, passes_fault}
 
 module _ (lines : List Line) (m next : MachineView) (trace : List Entry) (call : Option RunningCall) (tied : IsTied lines m trace) (stands : Stands lines trace call) where
   abbrev w : World

@@ -1,11 +1,10 @@
 -- How a script's place passes lines.
-use Rattle.std.proofs.Common.{◌≡◌, ◌≢◌, ℕ, List, [], ◌∷◌, Bool, true, false, cond, Option, Some, None, refl, sym, ap, subst, ◌∙◌, eq-eqb, ne_eqb, ◌==◌}
-use Rattle.tr_types.specs.declared.entry.Entry.{Entry}
+use Rattle.std.proofs.Common.{◌≡◌, ◌≢◌, ℕ, List, [], ◌∷◌, Bool, true, false, cond, Option, Some, None, refl, sym, ap, ◌∙◌, eq-eqb, ne_eqb}
 use Rattle.tr_types.specs.declared.entry.Mark.{Mark}
 use Rattle.tr_types.specs.declared.entry.Mark.TheVariants as mark
 use Rattle.tr_script.specs.declared.script.Line.{Line}
 use Rattle.tr_script.specs.declared.script.Line.TheVariants.{Mkfs, Process, Thread, Call, Do, Finish, Open, Stray}
-use Rattle.tr_top.specs.Along.{Place, Turns, Resting, ToTheEnd, ToAnOpening, Running, is_running, place_at, before, after_action}
+use Rattle.tr_top.specs.Along.{Place, ToTheEnd, ToAnOpening, Running, is_running, place_at, before, after_action}
 
 -- Passing lines leaves the call and the directory.
 running_kept : (lines : List Line) (r : Option Running) (d : ℕ) → (before lines r d).running ≡ r

@@ -3,7 +3,6 @@ use Rattle.std.proofs.Common.{◌≡◌, ℕ, ◌+◌, ◌*◌, ◌/◌, ◌≤�
 use Rattle.std.proofs.lemmas.List.FromFn.{length-map-range_with_len}
 use Rattle.std.specs.declared.result.Result.{Result}
 use Rattle.std.specs.Io.KnownBytes.{Appends}
-use Rattle.pm_words.specs.Memory.{all_durable}
 use Rattle.pm_words.proofs.WordLemmas.{length_all_durable}
 use Rattle.tr_types.specs.KernelView.{pages_of}
 use Rattle.tr_types.specs.NewImage.{new_image, new_word}
@@ -18,7 +17,7 @@ use Rattle.tr_script.specs.declared.script.Line.{Line}
 use Rattle.tr_script.specs.Text.{brief_text, brief_texts}
 use Rattle.tr_top.specs.declared.log.Stop.{Stop}
 use Rattle.tr_top.specs.declared.log.Stop.TheVariants.{Full, NoMemory, OutFailed}
-use Rattle.tr_top.specs.Along.{Place, Turns, Resting, ToTheEnd, ToAnOpening, Running, MayFollow, IsNext, IsAtEnd, followed, start_of}
+use Rattle.tr_top.specs.Along.{Place, Turns, Resting, MayFollow, IsNext, IsAtEnd, followed, start_of}
 use Rattle.tr_top.specs.Run.{IsRun, pages_made, world_after, place_after, opening}
 use Rattle.tr_top.specs.Running.{Added, Goes, IsTied, IsSound, IsFullAt}
 use Rattle.tr_types.proofs.MachineLemmas.{confined, registers_first}

@@ -1,13 +1,13 @@
 -- How calls stand while entries come.
-use Rattle.std.proofs.Common.{◌≡◌, ◌≢◌, ◌⊎◌, ℕ, ◌+◌, ◌<◌, ◌≤◌, List, [], ◌∷◌, ◌++◌, length, map, slice_index_or, cond, Bool, true, false, Bor, Option, Some, None, Contains, zero, suc, refl, sym, ap, subst, ◌∙◌, arith, eq-eqb, ne_eqb, ◌==◌, inl, inr}
+use Rattle.std.proofs.Common.{◌≡◌, ◌≢◌, ◌⊎◌, ℕ, ◌<◌, List, [], ◌∷◌, ◌++◌, length, map, slice_index_or, cond, Bool, Bor, Option, Some, None, Contains, zero, suc, refl, sym, ap, subst, ◌∙◌, arith, eq-eqb, ne_eqb, inl, inr}
 use Rattle.std.specs.List.{slice_get}
 use Rattle.std.specs.Option.{unwrap_or, option_copied}
 use Rattle.std.proofs.lemmas.Bool.{cases_eq}
 use Rattle.tr_types.specs.Denotes.{Denotes, dir_of}
-use Rattle.tr_types.specs.Machine.{Bus, IsThread, pkru_of, bus_after}
+use Rattle.tr_types.specs.Machine.{IsThread, pkru_of}
 use Rattle.tr_types.specs.Rights.{closed_pkru}
 use Rattle.tr_types.specs.Traces.{answer_in, answer_at}
-use Rattle.tr_types.specs.World.{World, Phase, Idle, put, put_consulted, stepped}
+use Rattle.tr_types.specs.World.{World, Phase, put, put_consulted, stepped}
 use Rattle.tr_types.specs.declared.action.Action.{Action}
 use Rattle.tr_types.specs.declared.action.Answer.{Answer}
 use Rattle.tr_types.specs.declared.action.Answer.TheVariants.{Done}

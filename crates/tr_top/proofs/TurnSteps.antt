@@ -1,6 +1,5 @@
 -- A turn of a call: its action or its reply may come, and calls stand after it.
-use Rattle.std.proofs.Common.{◌≡◌, ◌≢◌, ◌⊎◌, inl, inr, ℕ, ◌+◌, ◌*◌, ◌/◌, ◌<◌, ◌≤◌, List, [], ◌∷◌, ◌++◌, length, Bool, true, false, Option, Some, None, refl, sym, ap, subst, ◌∙◌, arith}
-use Rattle.std.proofs.lemmas.Bool.{cases_eq}
+use Rattle.std.proofs.Common.{◌≡◌, ◌≢◌, ℕ, ◌*◌, ◌/◌, ◌<◌, ◌≤◌, List, [], ◌∷◌, ◌++◌, length, false, Option, Some, None, refl, sym, ap, subst, ◌∙◌, arith}
 use Rattle.zo_layout.specs.Layout.{page_at, root_control, root_page}
 use Rattle.tr_types.specs.KernelView.{pages_of}
 use Rattle.pm_words.specs.Word.{Word}
@@ -9,10 +8,9 @@ use Rattle.pm_words.proofs.WordLemmas.{has_pages, length_all_durable}
 use Rattle.tr_types.specs.NewImage.{new_image}
 use Rattle.tr_types.specs.Tree.{new_tree}
 use Rattle.zo_ops.proofs.NewLaws.{laid_new, roles_in_new}
-use Rattle.tr_types.specs.Denotes.{control_of, dir_of}
+use Rattle.tr_types.specs.Denotes.{dir_of}
 use Rattle.tr_types.specs.Machine.{Bus, Answers, IsThread, HasRegisters, bus_over}
 use Rattle.tr_types.specs.Marks.{mark_of}
-use Rattle.tr_types.specs.Commands.{IsCommand}
 use Rattle.tr_types.specs.World.{World, Idle, Runs, NotYet, MayBegin, stepped}
 use Rattle.tr_types.specs.declared.action.Action.{Action}
 use Rattle.tr_types.specs.declared.action.Answer.{Answer}
@@ -31,14 +29,14 @@ use Rattle.zo_ops.proofs.LoadSteps.{ground_denotes}
 use Rattle.bus_machine.specs.View.{MachineView}
 use Rattle.tr_script.specs.declared.script.Line.{Line}
 use Rattle.tr_top.specs.declared.runner.RunningCall.{RunningCall}
-use Rattle.tr_top.specs.Along.{Place, Turns, Resting, ToTheEnd, ToAnOpening, Running, MayFollow, IsNext, IsOfCall, before, behind_call, after_action, followed}
+use Rattle.tr_top.specs.Along.{Place, Turns, Resting, ToTheEnd, ToAnOpening, Running, MayFollow, IsNext, IsOfCall, after_action, followed}
 use Rattle.tr_top.specs.Run.{world_after, place_after, pages_made}
 use Rattle.tr_top.specs.Running.{AreDue, IsTied, IsAside, IsSound, IsQuiet, IsAtTurn, IsCallGiven, Stands, StandsAs, answer_to}
 use Rattle.tr_top.proofs.PlaceLemmas.{before_running, before_dir}
 use Rattle.tr_top.proofs.RunLemmas.{length_more, length_new_image}
 use Rattle.tr_top.proofs.EntryLemmas.{Adds, still_adds}
 use Rattle.tr_top.proofs.LineLemmas.{behind_running, behind_dir}
-use Rattle.tr_top.proofs.StandLemmas.{put_same, put_other, consulted_same, all_aside, answer_kept, answer_new, stands_sound, stands_added, stands_denotes}
+use Rattle.tr_top.proofs.StandLemmas.{put_same, put_other, all_aside, answer_new, stands_sound, stands_added}
 
 -- What an action of a call leaves of the place.
 acted_running : (turns : Turns) (m : Mark) (p : Place) → (after_action turns m p).running ≡ p.running
@@ -193,7 +191,6 @@ module _ (lines : List Line) (m : MachineView) (trace : List Entry) (thread : �
     dir = behind_dir p.left (Some (record { thread = thread; command = command })) p.dir ∙ given.dir ∙ ap (λ (n : ℕ). page_at (root_page n)) (sym tied.size ∙ ap (λ (b : Bus). pages_of b.words) tied.bus);
   }
 
-
 -- What a call gives with the answer that it was told.
 pub turn_acts : (w : World) (trace : List Entry) (call : RunningCall) (next : Session) (m : Mark) (action : Action) (told : Answer) → told ≡ answer_to trace call.asked → SessionStepsFrom call.session told next (step.Act m action) → SessionKnows call.session (answer_to trace call.asked) w → SessionActs (SessionKnows next) next.thread next.command.now m action w
 turn_acts w trace call next m action told heard steps knows = steps w (subst (λ (a : Answer). SessionKnows call.session a w) (sym heard) knows)
@@ -217,7 +214,7 @@ pub call_done : (lines : List Line) (m : MachineView) (trace new : List Entry) (
     → told ≡ command → asked ≡ length trace → new ≡ trace ++ entry.Call thread told ∷ [] → Stands lines new (Some (record { session = session; asked = asked }))
 call_done lines m trace new thread asked command told session tied k given thread_is command_is begins same at is =
     let from_now : Stands lines new (Some (record { session = session; asked = length trace })) = stands_added lines trace new (entry.Call thread command) (Some (record { session = session; asked = length trace })) (is ∙ ap (λ (c : Command). trace ++ entry.Call thread c ∷ []) same)
-            (call_stands lines m trace thread command session tied k given thread_is command_is begins) in
+    (call_stands lines m trace thread command session tied k given thread_is command_is begins) in
     subst (λ (n : ℕ). Stands lines new (Some (record { session = session; asked = n }))) (sym at) from_now
 
 -- A run begins quiet.
@@ -230,8 +227,7 @@ pages_in words image pages is made = ap (λ (ws : List Word). pages_of ws) (is �
 
 ground_of : (pages : ℕ) → 64 ≤ pages → pages ≤ 16384 → IsGrounded (all_durable (new_image pages)) new_tree
 ground_of pages least most =
-    let size : pages_of (all_durable (new_image pages)) ≡ pages = pages_in (all_durable (new_image pages)) (new_image pages) pages refl refl in
-    (
+    let size : pages_of (all_durable (new_image pages)) ≡ pages = pages_in (all_durable (new_image pages)) (new_image pages) pages refl refl in (
       record {
         control = record { at = page_at (root_control pages); some = omega arith; near = omega arith };
         dir = record { at = page_at (root_page pages); some = omega arith; near = omega arith };

@@ -1,5 +1,5 @@
 -- What the parts of a run keep.
-use Rattle.std.specs.Prelude.{◌≡◌, ◌≢◌, ℕ, ◌<◌, ◌≤◌, List, [], ◌∷◌, ◌++◌, length, Option, Some, None, unwrap_or, Bool, true, false, Ok, Err}
+use Rattle.std.specs.Prelude.{◌≡◌, ◌≢◌, ℕ, ◌<◌, ◌≤◌, List, [], ◌∷◌, ◌++◌, length, Option, Some, None, unwrap_or, true, false, Ok, Err}
 use Rattle.std.specs.declared.result.Result.{Result}
 use Rattle.std.specs.Io.KnownBytes.{Appends}
 use Rattle.tr_types.specs.Denotes.{dir_of}
@@ -21,7 +21,6 @@ use Rattle.bus_machine.specs.View.{MachineView}
 use Rattle.tr_outside.specs.Causes.{Rose}
 use Rattle.tr_outside.specs.Whole.{AppendsFront}
 use Rattle.tr_dispatch.specs.Sessions.{IsGrounded, SessionKnows}
-use Rattle.tr_dispatch.specs.declared.session.Session.{Session}
 use Rattle.tr_script.specs.Grammar.{Declared, declared, nothing_declared, MayStand}
 use Rattle.tr_script.specs.Text.{brief_text, brief_texts}
 use Rattle.tr_script.specs.declared.script.Line.{Line}

@@ -209,7 +209,12 @@ impl<'a> Runner<'a> {
     }
 
     // Gives a call. No turn is made.
-    fn begin_call<O: Sink>(&mut self, out: &mut O, thread: u16, command: &'a Command) -> Result<(), Stop>
+    fn begin_call<O: Sink>(
+        &mut self,
+        out: &mut O,
+        thread: u16,
+        command: &'a Command,
+    ) -> Result<(), Stop>
         requires tied { IsTied self.old.script.now self.old.machine self.old.log.trace }
         requires stands { Stands self.old.script.now self.old.log.trace self.old.running }
         requires given { IsCallGiven self.old.script.now self.old.log.trace thread command.now }
@@ -319,7 +324,11 @@ impl<'a> Runner<'a> {
         ensures length { OnOk result (length self.new.log.trace ≡ length self.old.log.trace + 1) }
     {
         self.log.check_room()?;
-        let answer = self.log.trace.answer_at(call.asked).unwrap_or(&Answer::Done);
+        let answer = self
+            .log
+            .trace
+            .answer_at(call.asked)
+            .unwrap_or(&Answer::Done);
         let thread = call.session.thread();
         match call.session.next(self.alloc, answer)? {
             SessionStep::Act(mark, action) => {
@@ -335,7 +344,13 @@ impl<'a> Runner<'a> {
     }
 
     // Does an action, and gives its entry.
-    fn act<O: Sink>(&mut self, out: &mut O, thread: u16, mark: Mark, action: Action) -> Result<(), Stop>
+    fn act<O: Sink>(
+        &mut self,
+        out: &mut O,
+        thread: u16,
+        mark: Mark,
+        action: Action,
+    ) -> Result<(), Stop>
         requires tied { IsTied self.old.script.now self.old.machine self.old.log.trace }
         requires room { length self.old.log.trace < 4194304 }
         requires built { IsBuilt action }

@@ -1,5 +1,5 @@
 -- Laws of the machine: what an entry leaves of the length of the memory, of its words and of the registers.
-use Rattle.std.proofs.Common.{◌≡◌, ◌≢◌, ◌⊎◌, ℕ, ◌+◌, ◌/◌, ◌<◌, ◌≤◌, List, [], ◌∷◌, ◌++◌, length, map, Contains, fold, slice_index_or, zero, suc, refl, sym, ap, subst, ◌∙◌, inl, inr, arith, get_or-set_other}
+use Rattle.std.proofs.Common.{◌≡◌, ◌≢◌, ◌⊎◌, ℕ, ◌/◌, ◌<◌, ◌≤◌, List, [], ◌∷◌, ◌++◌, length, map, Contains, fold, slice_index_or, zero, suc, refl, sym, ap, subst, ◌∙◌, inl, inr, arith, get_or-set_other}
 use Rattle.std.proofs.lemmas.List.{length-set, get_or_past}
 use Rattle.std.proofs.lemmas.List.FromFn.{length-map-range_with_len, get_or-map-range_with_len}
 use Rattle.std.proofs.lemmas.Bool.{cases_eq, cases_lt}
@@ -242,15 +242,15 @@ one_of [] thread process t (zero, lt, at) = inl at
 one_of [] thread process t (suc k, lt, at) = absurd (omega arith)
 one_of (x ∷ threads) thread process t (zero, lt, at) = inr (zero, omega arith, at)
 one_of (x ∷ threads) thread process t (suc k, lt, at) = elim (one_of threads thread process t (k, omega arith, at)) [
-      inl new ↦ inl new
-      | inr (j, l, a) ↦ inr (suc j, omega arith, a)
-    ]
+  | inl new ↦ inl new
+  | inr (j, l, a) ↦ inr (suc j, omega arith, a)
+]
 
 with_thread_small : (bus : Bus) (thread process : ℕ) → thread < 256 → HasRegisters bus → (t : ℕ) → IsThread (with_thread thread process bus) t → t < 256
 with_thread_small bus thread process lt has t lives = elim (one_of bus.threads thread process t lives) [
-      inl new ↦ subst (λ (n : ℕ). n < 256) new lt
-      | inr before ↦ has.small t before
-    ]
+  | inl new ↦ subst (λ (n : ℕ). n < 256) new lt
+  | inr before ↦ has.small t before
+]
 
 pub registers_moved : (m : Machine) (e : Entry) → Fits m e → HasRegisters m.bus → HasRegisters (bus_moved m.bus e)
 registers_moved m (entry.Act thread now mark action answer) fits has = record { count = length_registered thread action answer m.bus.pkrus ∙ has.count; small = has.small }
@@ -287,9 +287,9 @@ registers_first image = record { count = closed_count; small = λ t among. nobod
 pub closed_first : (t : ℕ) → slice_index_or closed_pkrus t closed_pkru ≡ closed_pkru
 unfolding closed_pkrus
 closed_first t = elim (cases_lt t 256) [
-      inl less ↦ get_or-map-range_with_len (λ _. closed_pkru) 0 256 t t closed_pkru less (omega arith)
-      | inr more ↦ past (map (λ _. closed_pkru) (range_with_len 0 256)) t (omega (arith, more, length-map-range_with_len (λ (_ : ℕ). closed_pkru) 0 256))
-    ]
+  | inl less ↦ get_or-map-range_with_len (λ _. closed_pkru) 0 256 t t closed_pkru less (omega arith)
+  | inr more ↦ past (map (λ _. closed_pkru) (range_with_len 0 256)) t (omega (arith, more, length-map-range_with_len (λ (_ : ℕ). closed_pkru) 0 256))
+]
   where
     past : (l : List ℕ) (i : ℕ) → length l ≤ i → slice_index_or l i closed_pkru ≡ closed_pkru
     past l i le = get_or_past l i closed_pkru le

@@ -1,4 +1,4 @@
-use Rattle.tr_top.proofs.EntryLemmas.{Adds, act_adds, act_answers, adds_goes, adds_tied}
+use Rattle.tr_top.proofs.EntryLemmas.{act_adds, act_answers, adds_goes, adds_tied}
 use Rattle.tr_top.proofs.runner.Runner.act.Goals as goal
 
 pub returns-clause-goes : goal.returns-clause-goes

@@ -1,6 +1,5 @@
 use Rattle.std.proofs.lemmas.Result.{err_from_is_err_and}
-use Rattle.tr_top.specs.Run.{world_after, place_after}
-use Rattle.tr_top.proofs.RunLemmas.{goes_nowhere, on_ok}
+use Rattle.tr_top.proofs.RunLemmas.{goes_nowhere}
 use Rattle.tr_top.proofs.TurnSteps.{quiet_free, call_sound, call_done}
 use Rattle.tr_top.proofs.runner.Runner.begin_call.Goals as goal
 
@@ -18,5 +17,5 @@ pub returns-clause-stands : goal.returns-clause-stands
 returns-clause-stands g c =
     let k = c.requires in
     call_done _ c.args.self.now.machine _ _ c.args.thread c.len-asked.result c.args.command.now c.in_ok-told.told c.begin.result k.tied
-        (quiet_free _ _ c.args.self.now.log.trace c.args.self.now.running k.stands k.given.free) k.given c.begin.ensures.thread c.begin.ensures.command c.begin.ensures.knows
-        c.in_ok-told.ensures c.len-asked.ensures c.in_ok-give.ensures.added
+    (quiet_free _ _ c.args.self.now.log.trace c.args.self.now.running k.stands k.given.free) k.given c.begin.ensures.thread c.begin.ensures.command c.begin.ensures.knows
+    c.in_ok-told.ensures c.len-asked.ensures c.in_ok-give.ensures.added

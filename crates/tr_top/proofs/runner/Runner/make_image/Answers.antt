@@ -15,7 +15,7 @@ pub returns-clause-stands : goal.returns-clause-stands
 returns-clause-stands g c =
     let k = c.requires in
     on_ok c.give.result c.give.ensures.added (λ is. subst (λ (r : Option RunningCall). Stands c.args.self.now.script.now c.give.new.self.log.trace r) (sym c.give.ensures.running)
-        (mkfs_done _ c.args.self.now.machine c.args.self.now.machine _ _ k.tied k.stands c.args.pages _ k.next is))
+    (mkfs_done _ c.args.self.now.machine c.args.self.now.machine _ _ k.tied k.stands c.args.pages _ k.next is))
 
 pub returns-clause-passed : goal.returns-clause-passed
 returns-clause-passed g c =

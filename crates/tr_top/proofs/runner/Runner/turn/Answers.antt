@@ -1,13 +1,11 @@
-use Rattle.std.proofs.Common.{◌≡◌, ℕ, length, refl, sym, ap, ◌∙◌, subst, ◌++◌, ◌∷◌, [], List, Some, None}
+use Rattle.std.proofs.Common.{◌≡◌, ℕ, refl, sym, ap, ◌∙◌, subst, ◌++◌, ◌∷◌, [], Some}
 use Rattle.std.proofs.lemmas.Result.{err_from_is_err_and}
 use Rattle.tr_types.specs.Machine.{Answers}
 use Rattle.tr_types.specs.declared.action.Answer.{Answer}
-use Rattle.tr_types.specs.declared.entry.Entry.{Entry}
 use Rattle.tr_types.specs.declared.entry.Entry.TheVariants as entry
-use Rattle.tr_dispatch.specs.Sessions.{SessionActs, SessionEnds, SessionKnows, SessionStepsFrom}
-use Rattle.tr_dispatch.specs.declared.session.SessionStep.TheVariants as step
-use Rattle.tr_top.specs.Run.{world_after, place_after}
-use Rattle.tr_top.specs.Running.{IsSound, Stands, answer_to}
+use Rattle.tr_dispatch.specs.Sessions.{SessionStepsFrom}
+use Rattle.tr_top.specs.Run.{world_after}
+use Rattle.tr_top.specs.Running.{IsSound, answer_to}
 use Rattle.tr_top.specs.declared.runner.RunningCall.{RunningCall}
 use Rattle.tr_top.proofs.EntryLemmas.{adds_run}
 use Rattle.tr_top.proofs.RunLemmas.{goes_nowhere, goes_ok, goes_err, tied_more}
