@@ -1,7 +1,6 @@
 //! The session of one call: it finds and maps the coffer, opens its key alone, lets the call work, closes and unmaps.
 #![tactic(auto)]
 
-mod pkru;
 mod session;
 
 pub use session::{Session, SessionStep};

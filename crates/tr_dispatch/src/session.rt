@@ -8,7 +8,7 @@ ghost use Rattle.tr_types.specs.declared.action.Answer.{Answer};
 ghost use Rattle.tr_dispatch.specs.Sessions.{BeginsAt, SessionKnows, SessionStepsFrom, NextFrom, writes, right_of};
 ghost use Rattle.tr_dispatch.specs.declared.session.Stage.TheVariants as stage;
 
-use crate::pkru::{closed_pkru, only_pkru};
+use page_rights::Pkru;
 use sqlite_items::Boxed;
 use std::alloc::{AllocError, Global};
 use std::mem;
@@ -147,10 +147,10 @@ impl<'a> Session<'a> {
         if !is_key(m.key) {
             return damaged();
         }
-        let pkru = only_pkru(m.key, writes(self.command));
+        let pkru = Pkru::only(m.key, writes(self.command));
         Next::Act(
             Mark::Open,
-            Action::Pkru(pkru),
+            Action::Pkru(pkru.0),
             Stage::Working(CallRun::begin(coffer, self.command)),
         )
     }
@@ -183,7 +183,7 @@ fn close<'a>(reply: Reply) -> Next<'a>
 {
     Next::Act(
         Mark::Close,
-        Action::Pkru(closed_pkru()),
+        Action::Pkru(Pkru::closed().0),
         Stage::Closing(reply),
     )
 }
