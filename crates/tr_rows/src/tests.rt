@@ -2,15 +2,19 @@
 use pm_words::NoMemory;
 use std::alloc::Global;
 use tr_outside::{MemSink, MemSource};
-use tr_top::{Outcome, zofs_run};
+use tr_top::{Outcome, Status, zofs_run};
 
 mod changed;
+mod entries;
 mod full;
 mod limit;
 mod oracle;
+mod places;
 mod saved;
 mod slow;
 mod space;
+mod turns;
+mod windows;
 
 /// Room for an image of 1,024 pages, in bytes.
 const SAVED_ROOM: usize = 4_194_304;
@@ -37,4 +41,9 @@ fn run_text(alloc: Global, text: &[u8], room: usize) -> Result<Ran, NoMemory> {
         out,
         saved,
     })
+}
+
+/// Whether the run is done and has printed this.
+fn is_done(ran: &Ran, out: &str) -> bool {
+    ran.outcome.status == Status::Done && ran.out.bytes() == out.as_bytes()
 }
