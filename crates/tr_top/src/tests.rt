@@ -151,9 +151,12 @@ fn the_first_run_begins_as_its_script(rt: HostRuntime) -> Result<(), NoMemory> {
     Ok(())
 }
 
-/// Whether the entry is an action with another mark than `Plain`.
-fn is_marked(entry: &Entry) -> bool {
-    matches!(entry, Entry::Act { mark, .. } if *mark != Mark::Plain)
+/// How many actions have the mark.
+fn count_marked(entries: &[Entry], wanted: Mark) -> usize {
+    entries
+        .iter()
+        .filter(|entry| matches!(entry, Entry::Act { mark, .. } if *mark == wanted))
+        .count()
 }
 
 /// Whether the entry is the commit that puts the first place of page 40 into the bucket of `f`.
@@ -169,10 +172,12 @@ fn commits_f(entry: &Entry) -> bool {
 }
 
 #[test]
-fn the_first_run_commits_once(rt: HostRuntime) -> Result<(), NoMemory> {
+fn the_first_run_opens_two_windows_and_commits_once(rt: HostRuntime) -> Result<(), NoMemory> {
     let ran = run_script(rt.alloc(), FIRST_RUN)?;
     let entries = ran.outcome.trace.entries();
-    assert_eq!(rt; entries.iter().filter(|&entry| is_marked(entry)).count(), 1);
+    for (mark, count) in [(Mark::Open, 2), (Mark::Close, 2), (Mark::Commit, 1)] {
+        assert_eq!(rt; count_marked(entries, mark), count, "{mark:?}");
+    }
     assert!(rt; entries.iter().any(commits_f));
     Ok(())
 }
@@ -318,13 +323,32 @@ fn other_words_do_nothing(rt: HostRuntime) -> Result<(), NoMemory> {
         out: 1,
         saved: 1,
     };
-    let forms: [&[&str]; 6] = [
+    let forms: [&[&str]; 25] = [
         &[],
         &["run", "run"],
-        &["mkfs"],
-        &["--help"],
-        &[""],
+        &["run", "help"],
+        &["run", "-v"],
+        &["run", ""],
         &["Run"],
+        &[""],
+        &["help"],
+        &["--help"],
+        &["-h"],
+        &["mkfs"],
+        &["mkfs", "63"],
+        &["mkfs", "16385"],
+        &["mkfs", "064"],
+        &["mkfs", "+64"],
+        &["mkfs", "-64"],
+        &["mkfs", "6 4"],
+        &["mkfs", "64", "64"],
+        &["check", "check"],
+        &["soak", "1"],
+        &["soak", "1", "2001"],
+        &["soak", "01", "1"],
+        &["soak", "18446744073709551616", "0"],
+        &["live", "live"],
+        &["audit", "x"],
     ];
     for words in forms {
         let ran = run_on(rt.alloc(), words, FIRST_RUN, all, IMAGE_BYTES)?;
