@@ -19,6 +19,7 @@ fn is_bad_at(alloc: Global, text: &str, line: u32, column: u32) -> Result<bool, 
 fn first_lines_have_bad_places(rt: HostRuntime) -> Result<(), NoMemory> {
     for (text, line, column) in [
         ("", 1, 1),
+        ("# a note", 2, 1),
         ("# a note\n\n", 3, 1),
         ("mkfs 63\n", 1, 6),
         ("mkfs 63", 1, 6),
@@ -32,6 +33,7 @@ fn first_lines_have_bad_places(rt: HostRuntime) -> Result<(), NoMemory> {
         ("# a note\n\nmkfs 63\n", 3, 6),
         ("step t1 1\n", 1, 1),
         ("process p1 0 0\n", 1, 1),
+        ("# a note\nprocess p1 0 0\n", 2, 1),
         ("mkfs 64\nmkfs 64\n", 2, 1),
         ("mkfs 64\nproces p1 0 0\n", 2, 1),
         ("mkfs 64\nprocess p1 5 5\n", 2, 12),
