@@ -133,7 +133,7 @@ fn are_empty_buckets(entries: Option<&[Entry]>) -> bool {
         entries.len() == 256
             && entries
                 .iter()
-                .zip((161_792..).step_by(8))
+                .zip((161_792..163_840).step_by(8))
                 .all(|(entry, at)| step_of(entry) == Step::Load(at, 0))
     })
 }
