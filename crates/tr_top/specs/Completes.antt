@@ -1,12 +1,13 @@
 -- When a call must come to its end.
-use Rattle.std.specs.Prelude.{◌≡◌, ◌-◌, ◌<◌, ◌≤◌, ◌^◌, List, length}
+use Rattle.std.specs.Prelude.{◌≡◌, ℕ, ◌-◌, ◌<◌, ◌≤◌, ◌^◌, List, length, Some}
 use Rattle.tr_types.specs.declared.entry.Entry.{Entry}
 use Rattle.tr_script.specs.declared.status.Status.{Status}
 use Rattle.tr_script.specs.declared.status.Status.TheVariants.{Done, Full, NoMemory}
 use Rattle.tr_script.specs.declared.script.Line.{Line}
 use Rattle.tr_top.specs.Along.{IsAtEnd}
 use Rattle.tr_top.specs.Run.{trace_limit, place_after}
-use Rattle.tr_top.specs.Top.{Outside, ReadsScript}
+use Rattle.tr_script.specs.Grammar.{IsScript}
+use Rattle.tr_top.specs.Top.{Outside, IsAnswered, IsForm, ReadsScript}
 
 -- no fault was counted: each count is what it was, and wasn't at the counter's last value
 pub record NoFault (before after : Outside) : Type 0 where
@@ -21,3 +22,9 @@ EndsWell before after NoMemory trace = Unit {0}
 EndsWell before after Full trace =
     (lines : List Line) × ReadsScript before.script_left after.script_left lines × (trace_limit ≤ length trace) × (IsAtEnd (place_after lines trace) → ⊥)
 EndsWell before after status trace = ⊥
+
+-- Where the words are the form, the source's bytes are known and are a script, and no fault is counted, what the top call
+-- says of its end is that it ended well.
+abbrev pub Completes : Type 0
+Completes = (words : List (List ℕ)) (before after : Outside) (status : Status) (trace : List Entry) (text : List ℕ) (lines : List Line)
+    → IsAnswered words before after status trace → IsForm words → before.script_left ≡ Some text → IsScript text lines → NoFault before after → EndsWell before after status trace

@@ -8,5 +8,5 @@ mod runner;
 mod tests;
 mod top;
 
-pub use top::{Outcome, zofs_run};
+pub use top::{Outcome, completes_law, zofs_run};
 pub use tr_script::{Line, Script, Status};

@@ -7,6 +7,7 @@ ghost use Rattle.tr_outside.specs.ImageBytes.{image_bytes};
 ghost use Rattle.tr_script.specs.Grammar.{MayStand, declared, nothing_declared};
 ghost use Rattle.tr_top.specs.Run.{pages_made};
 ghost use Rattle.tr_top.specs.Top.{IsAnswered, IsForm, ReadsScript, RunEnds};
+ghost use Rattle.tr_top.specs.Completes.{Completes};
 ghost use Rattle.tr_top.specs.Ending.{IsRefusal, IsSaved, stop_status};
 
 use crate::log::Stop;
@@ -73,6 +74,12 @@ pub fn zofs_run<I: Source, S: Source, O: Sink, D: Sink>(
         Err(status) => nothing_begun(alloc, status),
     }
 }
+
+/// A law of what [`zofs_run`] ensures: accepted words and a script, with no fault counted, lead to the script's end, to
+/// want of memory, or to a full trace with a further entry due.
+pub fn completes_law()
+    ensures { Completes }
+{}
 
 // The one form is `run` alone.
 fn is_form(words: &[String]) -> bool
