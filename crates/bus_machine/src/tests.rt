@@ -1,4 +1,4 @@
-ghost use Rattle.std.specs.Prelude.{◌≡◌, ◌<◌, ◌+◌, length, IfOk};
+ghost use Rattle.std.specs.Prelude.{◌≡◌, ◌<◌, ◌+◌, length, IfOk, codes};
 ghost use Rattle.pm_words.specs.Memory.{all_durable};
 ghost use Rattle.tr_types.specs.NewImage as image;
 ghost use Rattle.tr_types.specs.KernelView.{pages_of};
@@ -129,8 +129,10 @@ fn ask(machine: &mut Machine, alloc: Global, call: Kcall) -> Result<KernAnswer, 
     }
 }
 
-fn root(alloc: Global) -> Result<Path, AllocError> {
-    Ok(Path::new(vec![in alloc; b'/']?))
+fn root(alloc: Global) -> Result<Path, AllocError>
+    ensures { IfOk result (λ path. path ≡ codes "/") }
+{
+    Ok(Path::new(Vec::from_slice(alloc, b"/")?))
 }
 
 fn map(machine: &mut Machine, alloc: Global, right: Right) -> Result<KernAnswer, BusFault>
