@@ -1,4 +1,6 @@
 pub mod Hash
+pub mod Marks
 pub mod Word
 pub mod Memory
+pub mod Crash
 pub mod View
