@@ -1,3 +1,6 @@
 pub mod WordLemmas
+mod MarkLemmas
+mod HeldLemmas
+mod PlaceLemmas
+mod LineLemmas
 mod ViewLemmas
-mod PendingLemmas

@@ -11,13 +11,13 @@ trimmed [] = []
 trimmed (x ∷ xs) = with_first x (trimmed xs)
 
 -- a thread's number
-pub mark_at : List ℕ → ℕ → ℕ
+abbrev pub mark_at : List ℕ → ℕ → ℕ
 mark_at [] thread = 0
 mark_at (x ∷ xs) zero = x
 mark_at (x ∷ xs) (suc thread) = mark_at xs thread
 
 -- with another number for one thread
-pub written : List ℕ → ℕ → ℕ → List ℕ
+abbrev pub written : List ℕ → ℕ → ℕ → List ℕ
 written [] zero gone = gone ∷ []
 written [] (suc thread) gone = 0 ∷ written [] thread gone
 written (x ∷ xs) zero gone = gone ∷ xs

@@ -22,6 +22,10 @@ abbrev pub look : List Mark → ℕ → ℕ
 look [] thread = 0
 look (m ∷ ms) thread = cond (nat_eq thread m.thread) m.gone (look ms thread)
 
+-- a mark, once `gone` older values have gone
+abbrev pub lowered : ℕ → Mark → Mark
+lowered gone m = record { thread = m.thread; gone = m.gone - gone }
+
 -- the marks by the numbers of threads
 abbrev pub marks_of : List Mark → List ℕ
 marks_of [] = []

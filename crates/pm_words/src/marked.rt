@@ -66,7 +66,8 @@ pub fn note(
     line: u32,
 ) -> Result<(), AllocError>
     ensures ok { OnOk result (Contains (lines_at marked.new.entries thread) line) }
-    ensures others { (t l : ℕ) → Contains (lines_at marked.old.entries t) l → Contains (lines_at marked.new.entries t) l }
+    ensures kept { (l : ℕ) → Contains (lines_at marked.old.entries thread) l → Contains (lines_at marked.new.entries thread) l }
+    ensures others { (t : ℕ) → t ≢ thread → lines_at marked.new.entries t ≡ lines_at marked.old.entries t }
 {
     match marked.get_mut(&thread) {
         Some(lines) => lines.add(line),

@@ -8,7 +8,7 @@ ghost use Rattle.pm_words.specs.Crash.{after_crash};
 use super::crash::settle;
 use super::fences::fence_lines;
 use super::marked::{Lines, note};
-use super::pending::{Pending, keep, mark_line, reserve_line};
+use super::pending::{Pending, keep, mark_line, older_of, reserve_line};
 use super::{Choice, Image, NoMemory};
 use indexmap::IndexMap;
 use std::alloc::Global;
@@ -130,10 +130,9 @@ impl Words {
         ensures err { OnErr result (self.new ≡ self.old) }
         ensures len { length self.new ≡ length self.old }
     {
-        let line = line_index(addr);
-        let first = LINE_WORDS * line as usize;
+        let first = word_index(addr) / LINE_WORDS * LINE_WORDS;
         reserve_line(&mut self.pending, first)?;
-        note(&mut self.marked, self.alloc, thread, line)?;
+        note(&mut self.marked, self.alloc, thread, line_index(addr))?;
         mark_line(&mut self.pending, thread, first);
         Ok(())
     }
@@ -153,16 +152,13 @@ impl Words {
 
     /// The values that a crash may leave in the word at a byte address, the durable one first and the
     /// present one last.
+    #[tactic(auto, using(crate::proofs::ViewLemmas::length_words_of, crate::proofs::ViewLemmas::words_of_at))]
     pub fn pending(&self, addr: u64) -> Result<Vec<u64>, NoMemory>
         requires { IsAddress (length self.now) addr }
         ensures list { IfOk result (λ list. list.items ≡ crash_list (word_at self.now addr)) }
     {
         let index = word_index(addr);
-        let mut list = Vec::new(self.alloc);
-        match self.pending.get(&index) {
-            Some(word) => list.extend_from_slice(word.older())?,
-            None => {}
-        }
+        let mut list = older_of(&self.pending, self.alloc, index)?;
         list.push(self.present[index])?;
         Ok(list)
     }

@@ -1,7 +1,8 @@
 //! What a crash may leave in a pending word, and what each thread has marked of it.
 
-ghost use Rattle.std.specs.Prelude.{◌≡◌, ◌≢◌, ℕ, ◌+◌, ◌-◌, ◌*◌, ◌<◌, ◌≤◌, ◌^◌, [], ◌∷◌, ◌++◌, length, drop, map, true, false, OnOk, OnErr, vec_len, vec_capacity};
-ghost use Rattle.pm_words.specs.View.{look, older_at, look_at, room_at, IsSameAt, IsFlushedAt, IsFencedAt, ArePending};
+ghost use Rattle.std.specs.Prelude.{◌≡◌, ◌≢◌, ℕ, ◌+◌, ◌-◌, ◌*◌, ◌<◌, ◌≤◌, ◌^◌, List, [], ◌∷◌, ◌++◌, length, drop, map, true, false, IfOk, OnOk, OnErr, vec_len, vec_capacity};
+ghost use Rattle.pm_words.specs.declared.pending.Mark.{Mark};
+ghost use Rattle.pm_words.specs.View.{look, lowered, older_at, look_at, room_at, IsSameAt, IsFlushedAt, IsFencedAt, ArePending};
 
 use indexmap::IndexMap;
 use std::alloc::{AllocError, Global};
@@ -107,13 +108,25 @@ fn put(marks: &mut Vec<Mark>, thread: u16, gone: usize)
     ensures own { look marks.new.items thread ≡ gone }
     ensures others { (t : ℕ) → t ≢ thread → look marks.new.items t ≡ look marks.old.items t }
 {
-    for mark in marks.iter_mut() {
+    if !replace(marks, thread, gone) {
+        marks.push(Mark { thread, gone }).unwrap();
+    }
+}
+
+// Changes a thread's mark, where it has one. Answers whether it has.
+fn replace(marks: &mut [Mark], thread: u16, gone: usize) -> bool
+    ensures len { length marks.new ≡ length marks.old }
+    ensures own { result ≡ true → look marks.new thread ≡ gone }
+    ensures none { result ≡ false → (ms : List Mark) → look (marks.new ++ ms) thread ≡ look ms thread }
+    ensures others { (t : ℕ) → t ≢ thread → (ms : List Mark) → look (marks.new ++ ms) t ≡ look (marks.old ++ ms) t }
+{
+    for mark in marks {
         if mark.thread == thread {
             mark.gone = gone;
-            return;
+            return true;
         }
     }
-    marks.push(Mark { thread, gone }).unwrap();
+    false
 }
 
 // How many older values go at a thread's fence.
@@ -129,10 +142,11 @@ fn gone_by(marks: &[Mark], thread: u16) -> usize
 }
 
 // Lowers each mark, once older values have gone.
-fn lower(marks: &mut Vec<Mark>, gone: usize)
-    ensures lower { (t : ℕ) → look marks.new.items t ≡ look marks.old.items t - gone }
+fn lower(marks: &mut [Mark], gone: usize)
+    ensures len { length marks.new ≡ length marks.old }
+    ensures lower { marks.new ≡ map (lowered gone) marks.old }
 {
-    for mark in marks.iter_mut() {
+    for mark in marks {
         mark.gone = mark.gone.saturating_sub(gone);
     }
 }
@@ -212,5 +226,19 @@ pub fn mark_line(pending: &mut IndexMap<usize, Pending>, thread: u16, first: usi
 {
     for index in first..first + 8 {
         mark_word(pending, thread, index);
+    }
+}
+
+/// A copy of the older values of the word at `index`.
+pub fn older_of(
+    pending: &IndexMap<usize, Pending>,
+    alloc: Global,
+    index: usize,
+) -> Result<Vec<u64>, AllocError>
+    ensures older { IfOk result (λ list. list.items ≡ older_at pending.now.entries index) }
+{
+    match pending.get(&index) {
+        Some(word) => Vec::from_slice(alloc, word.older()),
+        None => Ok(Vec::new(alloc)),
     }
 }
