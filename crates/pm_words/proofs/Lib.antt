@@ -4,3 +4,5 @@ mod HeldLemmas
 mod PlaceLemmas
 mod LineLemmas
 mod ViewLemmas
+pub mod HistoryLemmas
+pub mod CrashLemmas

@@ -11,6 +11,7 @@ mod choice;
 mod crash;
 mod fences;
 mod fnv;
+mod laws;
 mod marked;
 mod memory;
 mod pending;
@@ -18,6 +19,7 @@ mod snapshot;
 
 pub use choice::Choice;
 pub use fnv::fnv64;
+pub use laws::{crash_law, history_law};
 pub use memory::Words;
 pub use snapshot::Image;
 
