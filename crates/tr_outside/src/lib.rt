@@ -7,14 +7,18 @@
 mod counting;
 mod file;
 mod image;
+mod image_fault;
 mod memory;
+mod read_image;
 mod standard;
 mod traits;
 mod whole;
 
 pub use file::{FileSink, FileSource};
 pub use image::write_image;
+pub use image_fault::ImageFault;
 pub use memory::{MemSink, MemSource};
+pub use read_image::read_image;
 pub use standard::{StdSink, StdSource};
 pub use traits::{Failed, Sink, Source};
 pub use whole::{ReadError, WriteFault, read_up_to, write_all};
