@@ -1,5 +1,5 @@
 -- What a crash may leave.
-use Rattle.std.proofs.Common.{◌≡◌, ℕ, ◌+◌, ◌*◌, ◌%◌, ◌<◌, ◌≤◌, ◌++◌, List, [], ◌∷◌, length, length-append, slice_index_or, Contains, refl, sym, ap, subst, ◌∙◌, inl, inr, ◌⊎◌, arith}
+use Rattle.std.proofs.Common.{◌≡◌, ℕ, ◌*◌, ◌<◌, ◌≤◌, ◌++◌, List, [], ◌∷◌, length, slice_index_or, Contains, sym, ap, subst, ◌∙◌, inl, inr, ◌⊎◌}
 use Rattle.std.proofs.lemmas.Bool.{cases_lt}
 use Rattle.std.proofs.lemmas.List.{get_or_past}
 use Rattle.std.proofs.lemmas.List.Elements.{Contains-push, Contains-get_or}
@@ -7,7 +7,7 @@ use Rattle.pm_words.specs.declared.choice.Choice.{Choice}
 use Rattle.pm_words.specs.declared.choice.Choice.TheVariants as pick
 use Rattle.pm_words.specs.Word.{Word, settled, crash_list}
 use Rattle.pm_words.specs.Memory.{each_word}
-use Rattle.pm_words.specs.Crash.{picked, after_crash, MayLeave, CrashLaw}
+use Rattle.pm_words.specs.Crash.{picked, after_crash, CrashLaw}
 use Rattle.pm_words.proofs.ViewLemmas.{length_each_word, each_word_at}
 
 -- a place in a list and beyond it

@@ -1,10 +1,10 @@
 -- The marks that a pending word keeps, and what they show.
-use Rattle.std.proofs.Common.{◌≡◌, ◌≢◌, ℕ, zero, suc, ◌+◌, ◌-◌, ◌<◌, ◌≤◌, Bool, true, false, cond, List, [], ◌∷◌, ◌++◌, map, length, length-drop, drop, slice_index_or, slice_set, nat_eq, refl, sym, ap, subst, ◌∙◌, inl, inr, ◌⊎◌, arith}
+use Rattle.std.proofs.Common.{◌≡◌, ◌≢◌, ℕ, zero, suc, ◌-◌, ◌<◌, ◌≤◌, Bool, true, false, cond, List, [], ◌∷◌, ◌++◌, map, length, length-drop, drop, slice_index_or, slice_set, nat_eq, refl, sym, ap, subst, ◌∙◌, inl, inr, ◌⊎◌, arith}
 use Rattle.std.proofs.lemmas.Bool.{cases_eq, eq-eqb, ne_eqb}
 use Rattle.pm_words.specs.declared.pending.Mark.{Mark}
 use Rattle.pm_words.specs.Marks.{mark_at, put_mark, less_marks}
 use Rattle.pm_words.specs.View.{look, lowered, marks_of}
-use Rattle.pm_words.proofs.MarkLemmas.{IsTrimmed, equal_marks, trimmed_none, trimmed_put, trimmed_less, mark_put, mark_put_same, mark_put_other, mark_less}
+use Rattle.pm_words.proofs.MarkLemmas.{IsTrimmed, equal_marks, trimmed_put, trimmed_less, mark_put, mark_put_same, mark_put_other, mark_less}
 
 pub trimmed_marks : (ms : List Mark) → IsTrimmed (marks_of ms)
 trimmed_marks [] = refl

@@ -1,5 +1,5 @@
 -- What is kept of a word shows its whole history.
-use Rattle.std.proofs.Common.{◌≡◌, ◌≢◌, ℕ, ◌+◌, ◌-◌, ◌<◌, ◌≤◌, ◌==◌, Bool, true, false, cond, max, if◌then◌else◌, List, [], ◌∷◌, ◌++◌, length, length-append, length-drop, drop, drop-drop, nat_eq, fold, slice_index_or, refl, sym, ap, subst, ◌∙◌, inl, inr, ◌⊎◌, arith}
+use Rattle.std.proofs.Common.{◌≡◌, ◌≢◌, ℕ, ◌+◌, ◌-◌, ◌≤◌, ◌==◌, Bool, true, false, cond, max, if◌then◌else◌, List, [], ◌∷◌, length, length-append, length-drop, drop, drop-drop, nat_eq, fold, slice_index_or, refl, sym, ap, subst, ◌∙◌, inl, inr, ◌⊎◌, arith}
 use Rattle.std.proofs.lemmas.Bool.{cases_eq, eq-eqb, ne_eqb}
 use Rattle.std.proofs.lemmas.List.{drop-append-le}
 use Rattle.pm_words.specs.Marks.{mark_at, put_mark, less_marks}
@@ -99,11 +99,11 @@ fence_seen thread f = λ i. record { older = older i; present = f.present; marks
 
     marks : past (max f.floor (place_of f.marks thread)) (without thread f.marks) ≡ less_marks gone (past f.floor f.marks)
     marks = equal_marks _ _ (trimmed_past _ (without thread f.marks)) (trimmed_less gone (past f.floor f.marks)) (λ u.
-      mark_past _ (without thread f.marks) u
-      ∙ at u (cases_eq u thread)
-      ∙ ap (λ (n : ℕ). (place_of f.marks u - f.floor) - n) (sym gone_is)
-      ∙ ap (λ (n : ℕ). n - gone) (sym (mark_past f.floor f.marks u))
-      ∙ sym (mark_less gone (past f.floor f.marks) u))
+        mark_past _ (without thread f.marks) u
+        ∙ at u (cases_eq u thread)
+        ∙ ap (λ (n : ℕ). (place_of f.marks u - f.floor) - n) (sym gone_is)
+        ∙ ap (λ (n : ℕ). n - gone) (sym (mark_past f.floor f.marks u))
+        ∙ sym (mark_less gone (past f.floor f.marks) u))
 
 seen_step : (e : Event) (f : Full) → IsFull f → seen (full_step f e) ≡ word_step (seen f) e
 seen_step (Store value) f ok = store_seen value f ok

@@ -1,12 +1,12 @@
 -- The lines that each thread has marked.
-use Rattle.std.proofs.Common.{◌≡◌, ◌≢◌, ℕ, ◌+◌, ◌-◌, ◌*◌, ◌/◌, ◌<◌, ◌≤◌, Bool, true, false, cond, if◌then◌else◌, Option, Some, None, unwrap_or, List, [], ◌∷◌, ◌++◌, length, nat_eq, refl, sym, ap, subst, ◌∙◌, inl, inr, ◌⊎◌, arith, Contains}
+use Rattle.std.proofs.Common.{◌≡◌, ◌≢◌, ℕ, ◌+◌, ◌-◌, ◌*◌, ◌/◌, ◌<◌, ◌≤◌, Bool, true, false, cond, if◌then◌else◌, Option, Some, None, unwrap_or, List, [], ◌∷◌, ◌++◌, nat_eq, refl, sym, ap, subst, ◌∙◌, inl, inr, ◌⊎◌, arith, Contains}
 use Rattle.std.proofs.lemmas.Bool.{cases_eq, cases_lt, eqb-true}
 use Rattle.std.proofs.lemmas.List.Elements.{Contains-push}
 use Rattle.std.proofs.lemmas.Map.Views.{Contains-from_any}
 use Rattle.std.specs.List.{list_any}
 use Rattle.std.specs.Map.{lookup, set_value}
 use Rattle.indexmap.specs.IndexSet.{insert_key}
-use Rattle.pm_words.specs.View.{Held, look_at, older_at, lines_at, IsSameAt, IsFlushedAt, IsFencedAt, ArePending, AreNoted, IsSound}
+use Rattle.pm_words.specs.View.{Held, look_at, lines_at, IsSameAt, IsFlushedAt, IsFencedAt, ArePending, IsSound}
 
 -- a line that was put in is there
 pub contains_inserted : (old new : List ℕ) (line : ℕ) → new ≡ insert_key nat_eq old line → Contains new line

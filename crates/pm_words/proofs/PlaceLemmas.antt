@@ -1,6 +1,6 @@
 -- Places that show the same, that were flushed and that were fenced, one step after the other.
-use Rattle.std.proofs.Common.{◌≡◌, ◌≢◌, ℕ, ◌+◌, ◌-◌, ◌*◌, ◌/◌, ◌<◌, ◌≤◌, List, [], drop, length, refl, sym, ap, subst, ◌∙◌, inl, inr, ◌⊎◌, arith, slice_index_or, Contains, Result, Ok, Err, OnErr}
-use Rattle.std.proofs.lemmas.Bool.{cases_eq, cases_lt}
+use Rattle.std.proofs.Common.{◌≡◌, ◌≢◌, ℕ, ◌+◌, ◌*◌, ◌/◌, ◌<◌, ◌≤◌, List, drop, length, refl, sym, ap, ◌∙◌, inl, inr, ◌⊎◌, arith, slice_index_or, Contains, Result, Ok, Err, OnErr}
+use Rattle.std.proofs.lemmas.Bool.{cases_lt}
 use Rattle.std.proofs.lemmas.List.{get_or_default}
 use Rattle.pm_words.specs.View.{Held, look_at, older_at, IsSameAt, IsFlushedAt, IsFencedAt}
 
@@ -16,31 +16,31 @@ same_then a b c k one two = record { older = two.older ∙ one.older; marks = λ
 
 pub same_flushed : (thread : ℕ) (a b c : List (ℕ × Held)) (k : ℕ) → IsSameAt a b k → IsFlushedAt thread b c k → IsFlushedAt thread a c k
 same_flushed thread a b c k one two = record {
-    older = two.older ∙ one.older;
-    own = two.own ∙ ap length one.older;
-    others = λ t ne. two.others t ne ∙ one.marks t
-  }
+  older = two.older ∙ one.older;
+  own = two.own ∙ ap length one.older;
+  others = λ t ne. two.others t ne ∙ one.marks t;
+}
 
 pub flushed_same : (thread : ℕ) (a b c : List (ℕ × Held)) (k : ℕ) → IsFlushedAt thread a b k → IsSameAt b c k → IsFlushedAt thread a c k
 flushed_same thread a b c k one two = record {
-    older = two.older ∙ one.older;
-    own = two.marks thread ∙ one.own;
-    others = λ t ne. two.marks t ∙ one.others t ne
-  }
+  older = two.older ∙ one.older;
+  own = two.marks thread ∙ one.own;
+  others = λ t ne. two.marks t ∙ one.others t ne;
+}
 
 pub same_fenced : (thread : ℕ) (a b c : List (ℕ × Held)) (k : ℕ) → IsSameAt a b k → IsFencedAt thread b c k → IsFencedAt thread a c k
 same_fenced thread a b c k one two =
     let own = one.marks thread in
     record {
       older = two.older ∙ ap (λ (n : ℕ). drop n (older_at b k)) own ∙ ap (λ (l : List ℕ). drop (look_at a k thread) l) one.older;
-      marks = λ t. let here = one.marks t in let there = two.marks t in omega (arith, own, here, there)
+      marks = λ t. let here = one.marks t in let there = two.marks t in omega (arith, own, here, there);
     }
 
 pub fenced_same : (thread : ℕ) (a b c : List (ℕ × Held)) (k : ℕ) → IsFencedAt thread a b k → IsSameAt b c k → IsFencedAt thread a c k
 fenced_same thread a b c k one two = record {
-    older = two.older ∙ one.older;
-    marks = λ t. two.marks t ∙ one.marks t
-  }
+  older = two.older ∙ one.older;
+  marks = λ t. two.marks t ∙ one.marks t;
+}
 
 -- a second fence finds no mark of the thread
 pub fenced_twice : (thread : ℕ) (a b c : List (ℕ × Held)) (k : ℕ) → IsFencedAt thread a b k → IsFencedAt thread b c k → IsFencedAt thread a c k
@@ -49,15 +49,15 @@ fenced_twice thread a b c k one two =
     let none : look_at b k thread ≡ 0 = omega (arith, own) in
     record {
       older = two.older ∙ ap (λ (n : ℕ). drop n (older_at b k)) none ∙ one.older;
-      marks = λ t. let here = one.marks t in let there = two.marks t in omega (arith, none, here, there)
+      marks = λ t. let here = one.marks t in let there = two.marks t in omega (arith, none, here, there);
     }
 
 -- a place where the thread has no mark is as after its fence
 pub unmarked_fenced : (thread : ℕ) (a b : List (ℕ × Held)) (k : ℕ) → IsSameAt a b k → look_at a k thread ≡ 0 → IsFencedAt thread a b k
 unmarked_fenced thread a b k same none = record {
-    older = same.older ∙ sym (ap (λ (n : ℕ). drop n (older_at a k)) none);
-    marks = λ t. let here = same.marks t in omega (arith, none, here)
-  }
+  older = same.older ∙ sym (ap (λ (n : ℕ). drop n (older_at a k)) none);
+  marks = λ t. let here = same.marks t in omega (arith, none, here);
+}
 
 -- a place once a fence has come to the first lines of a list: it was fenced, or is as it was and in none of these
 abbrev pub IsSoFar : ℕ → List ℕ → ℕ → List (ℕ × Held) → List (ℕ × Held) → ℕ → Type 0

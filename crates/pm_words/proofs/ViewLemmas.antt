@@ -1,15 +1,15 @@
 -- The words that present values and entries of older values and marks stand for.
-use Rattle.std.proofs.Common.{◌≡◌, ◌≢◌, ℕ, ◌+◌, ◌*◌, ◌^◌, ◌/◌, ◌<◌, ◌≤◌, ◌==◌, Bool, if◌then◌else◌, map, drop, refl, List, [], ◌∷◌, ◌++◌, length, slice_index_or, slice_set, sym, ap, subst, ◌∙◌, inl, inr, ◌⊎◌, arith, get_or-set_same, get_or-set_other}
+use Rattle.std.proofs.Common.{◌≡◌, ◌≢◌, ℕ, ◌+◌, ◌*◌, ◌^◌, ◌/◌, ◌<◌, ◌≤◌, ◌==◌, Bool, if◌then◌else◌, drop, refl, List, [], ◌∷◌, ◌++◌, length, slice_index_or, slice_set, sym, ap, subst, ◌∙◌, inl, inr, ◌⊎◌, arith, get_or-set_same, get_or-set_other}
 use Rattle.std.proofs.lemmas.Bool.{cases_eq, cases_lt, eq-eqb, ne_eqb}
 use Rattle.std.proofs.lemmas.List.{length-set, length-map, get_or-map, get_or_default, same_lists}
 use Rattle.std.proofs.lemmas.List.FromFn.{length-enumerate_from, get_or-enumerate_from}
 use Rattle.std.specs.List.{enumerate_from}
 use Rattle.pm_words.specs.Word.{Word, settled, stored, flushed, fenced}
-use Rattle.pm_words.specs.Marks.{mark_at, put_mark, less_marks}
+use Rattle.pm_words.specs.Marks.{mark_at}
 use Rattle.pm_words.specs.declared.choice.Choice.{Choice}
 use Rattle.pm_words.specs.Crash.{picked, after_crash}
-use Rattle.pm_words.specs.Memory.{store_at, cas_at, flush_at, fence_by, each_word, present_values, all_durable, IsAddress, HasPages}
-use Rattle.pm_words.specs.View.{Held, look, marks_of, held_at, older_at, look_at, word_of, words_of, lines_at, IsSameAt, IsFlushedAt, IsFencedAt, ArePending, AreNoted, IsSound}
+use Rattle.pm_words.specs.Memory.{store_at, flush_at, fence_by, each_word, present_values, all_durable, IsAddress, HasPages}
+use Rattle.pm_words.specs.View.{Held, marks_of, held_at, older_at, look_at, word_of, words_of, IsSameAt, IsFlushedAt, IsFencedAt, ArePending, IsSound}
 use Rattle.pm_words.proofs.HeldLemmas.{mark_look, same_marks, flushed_marks, fenced_marks}
 
 pub length_words_of : (entries : List (ℕ × Held)) (present : List ℕ) → length (words_of entries present) ≡ length present

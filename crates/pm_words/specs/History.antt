@@ -1,5 +1,4 @@
-use Rattle.std.specs.Prelude.{◌≡◌, ℕ, ◌-◌, ◌≤◌, ◌==◌, Bool, not, List, [], ◌∷◌, ◌++◌, length, drop, max, nat_eq, cond, if◌then◌else◌, fold, slice_index_or}
-use Rattle.std.specs.List.{filter}
+use Rattle.std.specs.Prelude.{◌≡◌, ℕ, ◌-◌, ◌≤◌, ◌==◌, List, [], ◌∷◌, ◌++◌, length, drop, max, nat_eq, cond, if◌then◌else◌, fold, slice_index_or}
 use Rattle.pm_words.specs.Marks.{put_mark}
 use Rattle.pm_words.specs.Word.{Word, settled, stored, flushed, fenced, crash_list}
 

@@ -50,12 +50,7 @@ fn hash_of(seed: u64, addr: u64) -> u64
 }
 
 // The value that a crash leaves in the word at a place.
-fn left_at(
-    pending: &IndexMap<usize, Pending>,
-    choice: Choice,
-    place: usize,
-    present: u64,
-) -> u64
+fn left_at(pending: &IndexMap<usize, Pending>, choice: Choice, place: usize, present: u64) -> u64
     requires { place < 2 ^ 60 }
     ensures { result ≡ picked choice (8 * place) (older_at pending.now.entries place) present }
 {

@@ -7,11 +7,9 @@ ghost use Rattle.pm_words.specs.History.{KeepsAll};
 /// stores, flushes, fences and crashes show of its whole history.
 pub fn history_law()
     ensures kept { KeepsAll }
-{
-}
+{}
 
 /// A crash leaves in each word a value of its crash list, and makes it durable, whatever was chosen.
 pub fn crash_law()
     ensures left { CrashLaw }
-{
-}
+{}

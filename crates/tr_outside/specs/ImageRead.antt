@@ -1,5 +1,5 @@
 -- What reading an image answers.
-use Rattle.std.specs.Prelude.{◌≡◌, ◌≢◌, ℕ, ◌+◌, ◌*◌, ◌/◌, ◌%◌, ◌<◌, ◌≤◌, List, length, drop, map}
+use Rattle.std.specs.Prelude.{◌≡◌, ◌≢◌, ℕ, ◌+◌, ◌*◌, ◌/◌, ◌%◌, ◌<◌, ◌≤◌, List, length, drop, map, ◌⊎◌}
 use Rattle.std.specs.List.{range_with_len}
 use Rattle.std.specs.declared.result.Result.{Result}
 use Rattle.std.specs.declared.result.Result.TheVariants.{Ok, Err}
@@ -30,11 +30,7 @@ IsFaultOf len fault.NoMemory = ⊥
 -- the answer to these bytes: their words exactly where they are whole pages, and else why not; or memory ran out
 abbrev pub AnswersBytes : List ℕ → Result (List ℕ) ImageFault → Type 0
 AnswersBytes bytes (Ok words) = IsLength (length bytes) × (words ≡ image_words bytes)
-AnswersBytes bytes (Err fault.NoMemory) = ⊤
-AnswersBytes bytes (Err fault.ReadFault) = ⊥
-AnswersBytes bytes (Err (fault.TooShort count)) = IsFaultOf (length bytes) (fault.TooShort count)
-AnswersBytes bytes (Err (fault.TooLong count)) = IsFaultOf (length bytes) (fault.TooLong count)
-AnswersBytes bytes (Err (fault.NotWhole count)) = IsFaultOf (length bytes) (fault.NotWhole count)
+AnswersBytes bytes (Err error) = (error ≡ fault.NoMemory) ⊎ IsFaultOf (length bytes) error
 
 -- the answer to a source: where no read failed and memory sufficed, that to the bytes that it had left, of which no more than one past the largest image were read
 abbrev pub AnswersImage : Option (List ℕ) → Option (List ℕ) → Result (List ℕ) ImageFault → Type 0

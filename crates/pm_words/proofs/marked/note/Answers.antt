@@ -1,4 +1,4 @@
-use Rattle.std.proofs.Common.{◌≡◌, sym}
+use Rattle.std.proofs.Common.{sym}
 use Rattle.pm_words.proofs.LineLemmas.{kept_some}
 use Rattle.pm_words.proofs.marked.note.Goals as goal
 

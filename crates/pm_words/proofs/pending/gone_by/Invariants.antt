@@ -1,5 +1,5 @@
-use Rattle.std.proofs.Common.{◌≡◌, ◌≢◌, ℕ, ◌+◌, ◌-◌, ◌*◌, ◌<◌, ◌≤◌, ◌^◌, [], ◌∷◌, ◌++◌, length, drop, map, true, false, OnOk, OnErr, vec_len, vec_capacity}
-use Rattle.pm_words.specs.View.{look, older_at, look_at, room_at, IsSameAt, IsFlushedAt, IsFencedAt, ArePending}
+use Rattle.std.proofs.Common.{◌≡◌, drop}
+use Rattle.pm_words.specs.View.{look}
 use Rattle.pm_words.proofs.pending.gone_by.Given as goal
 
 abbrev pub invariant-loop-mark : goal.invariant-loop-mark

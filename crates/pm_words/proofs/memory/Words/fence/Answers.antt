@@ -1,4 +1,4 @@
-use Rattle.std.proofs.Common.{◌≡◌, ◌≢◌, ℕ, ◌/◌, ◌<◌, ◌≤◌, List, [], sym, ap, subst, ◌∙◌, arith, Option, unwrap_or, Contains, inl, inr}
+use Rattle.std.proofs.Common.{ℕ, ◌/◌, List, [], sym, subst, arith, Option, unwrap_or, Contains, inr}
 use Rattle.pm_words.proofs.PlaceLemmas.{same_at, so_far_all}
 use Rattle.pm_words.proofs.ViewLemmas.{fence_is}
 use Rattle.pm_words.proofs.memory.Words.fence.Goals as goal

@@ -1,8 +1,8 @@
-use Rattle.std.proofs.Common.{◌≡◌, ℕ, ◌-◌, ◌≤◌, List, [], ◌∷◌, map, drop, length, sym, ap, subst, ◌∙◌, arith}
+use Rattle.std.proofs.Common.{◌≡◌, ℕ, ◌≤◌, List, map, drop, length, ap, ◌∙◌, arith}
 use Rattle.std.proofs.lemmas.List.{with_items_is}
 use Rattle.std.specs.Vec.{with_items}
 use Rattle.pm_words.specs.declared.pending.Mark.{Mark}
-use Rattle.pm_words.specs.View.{Held, look, lowered}
+use Rattle.pm_words.specs.View.{look, lowered}
 use Rattle.pm_words.proofs.HeldLemmas.{fenced_look, fenced_bound}
 use Rattle.pm_words.proofs.pending.Pending.fence.Goals as goal
 

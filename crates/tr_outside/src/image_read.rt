@@ -37,12 +37,12 @@ pub fn read_image<S: Source>(alloc: Global, source: &mut S) -> Result<Image, Ima
 fn image_of(alloc: Global, bytes: &[u8]) -> Result<Image, ImageFault>
     ensures answer { AnswersBytes bytes.now result }
 {
-    if let Some(fault) = fault_of(bytes.len()) {
-        return Err(fault);
-    }
-    match words_of(alloc, bytes) {
-        Ok(words) => Ok(Image::new(words)),
-        Err(_) => Err(ImageFault::NoMemory),
+    match fault_of(bytes.len()) {
+        Some(fault) => Err(fault),
+        None => match words_of(alloc, bytes) {
+            Ok(words) => Ok(Image::new(words)),
+            Err(_) => Err(ImageFault::NoMemory),
+        },
     }
 }
 
@@ -119,7 +119,10 @@ mod tests {
 
     #[test]
     fn a_failed_read_is_a_read_fault(rt: HostRuntime) -> Result<(), AllocError> {
-        let mut source = MemSource::new(Vec::new(rt.alloc()), Vec::from_slice(rt.alloc(), &[1u32])?);
+        let mut source = MemSource::new(
+            Vec::new(rt.alloc()),
+            Vec::from_slice(rt.alloc(), &[1u32])?,
+        );
         let outcome = read_image(rt.alloc(), &mut source);
         assert!(rt; matches!(outcome, Err(ImageFault::ReadFault)));
         Ok(())
