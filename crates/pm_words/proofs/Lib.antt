@@ -1,3 +1,8 @@
 pub mod WordLemmas
+mod MarkLemmas
+mod HeldLemmas
+mod PlaceLemmas
+mod LineLemmas
 mod ViewLemmas
-mod PendingLemmas
+pub mod HistoryLemmas
+pub mod CrashLemmas

@@ -1,10 +1,15 @@
 //! The words of a running machine.
 
-ghost use Rattle.std.specs.Prelude.{◌≡◌, ◌*◌, ◌/◌, length, IfOk, OnOk, OnErr};
-ghost use Rattle.pm_words.specs.Memory.{word_at, store_at, present_values, all_durable, IsAddress, HasPages};
+ghost use Rattle.std.specs.Prelude.{◌≡◌, ◌*◌, ◌/◌, ◌<◌, ◌≤◌, ◌^◌, length, replicate, IfOk, OnOk, OnErr};
+ghost use Rattle.pm_words.specs.Word.{crash_list};
+ghost use Rattle.pm_words.specs.Memory.{word_at, store_at, cas_at, flush_at, fence_by, present_values, all_durable, IsAddress, HasPages};
+ghost use Rattle.pm_words.specs.Crash.{after_crash};
 
-use super::older::{Older, keep};
-use super::{Image, NoMemory};
+use super::crash::settle;
+use super::fences::fence_lines;
+use super::marked::{Lines, note};
+use super::pending::{Pending, keep, mark_line, older_of, reserve_line};
+use super::{Choice, Image, NoMemory};
 use indexmap::IndexMap;
 use std::alloc::Global;
 use std::marker::Model;
@@ -13,30 +18,46 @@ const WORD_BYTES: u64 = 8;
 
 const PAGE_WORDS: usize = 512;
 
+const LINE_BYTES: u64 = 64;
+
+const LINE_WORDS: usize = 8;
+
 /// The words of a running machine, in 64 to 16,384 pages of 512 words.
 ///
 /// A durable word takes 8 bytes. A pending word, which a crash may set back, takes an entry more.
+/// Each thread's marked lines are kept by themselves, so that its fence comes to no other line.
 #[derive(Drop)]
 pub struct Words {
     present: Vec<u64>,
-    pending: IndexMap<usize, Older>,
+    pending: IndexMap<usize, Pending>,
+    marked: IndexMap<u16, Lines>,
     alloc: Global,
 }
 
 impl Model for Words {
-    ghost use Rattle.std.specs.Prelude.{List, length, All};
+    ghost use Rattle.std.specs.Prelude.{List, length};
     ghost use Rattle.pm_words.specs.Word.{Word};
-    ghost use Rattle.pm_words.specs.Memory.{HasPages};
-    ghost use Rattle.pm_words.specs.View.{words_of, IsPending};
+    ghost use Rattle.pm_words.specs.View.{words_of, IsSound};
 
     ghost Value = { List Word };
 
     ghost view = { λ m. words_of m.pending.entries m.present.items };
 
-    ghost invariant = { λ m. HasPages (length m.present.items) × All (IsPending (length m.present.items)) m.pending.entries };
+    ghost invariant = { λ m. IsSound (length m.present.items) m.marked.entries m.pending.entries };
 }
 
 impl Words {
+    /// This many pages of words that are 0, all durable.
+    pub fn blank(alloc: Global, pages: u32) -> Result<Words, NoMemory>
+        requires least { 64 ≤ pages }
+        requires most { pages ≤ 16384 }
+        ensures ok { IfOk result (λ w. w ≡ all_durable (replicate (512 * pages) 0)) }
+        ensures len { IfOk result (λ w. length w ≡ 512 * pages) }
+    {
+        let words = vec![in alloc; 0; PAGE_WORDS * pages as usize]?;
+        Words::of_image(alloc, Image::new(words))
+    }
+
     /// The words of an image, all durable. No word is copied, and no memory taken.
     #[tactic(auto, using(crate::proofs::ViewLemmas::no_entries, crate::proofs::ViewLemmas::length_words_of))]
     pub fn of_image(alloc: Global, image: Image) -> Result<Words, NoMemory>
@@ -47,6 +68,7 @@ impl Words {
         Ok(Words {
             present: image.into_words(),
             pending: IndexMap::new(alloc),
+            marked: IndexMap::new(alloc),
             alloc,
         })
     }
@@ -83,6 +105,76 @@ impl Words {
         Ok(())
     }
 
+    /// Stores `new` exactly where the word at a byte address has the value `old`. Answers the value
+    /// that was there. An error leaves the memory as it was.
+    pub fn cas(&mut self, addr: u64, old: u64, new: u64) -> Result<u64, NoMemory>
+        requires { IsAddress (length self.old) addr }
+        ensures value { IfOk result (λ value. value ≡ (word_at self.old addr).present) }
+        ensures ok { OnOk result (self.new ≡ cas_at addr old new self.old) }
+        ensures err { OnErr result (self.new ≡ self.old) }
+        ensures len { length self.new ≡ length self.old }
+    {
+        let value = self.load(addr);
+        if value == old {
+            self.store(addr, new)?;
+        }
+        Ok(value)
+    }
+
+    /// Marks, for a thread, the present values of the 8 words of the line that a byte address is in.
+    /// An error leaves the memory as it was.
+    #[tactic(auto, using(crate::proofs::ViewLemmas::length_words_of))]
+    pub fn flush(&mut self, thread: u16, addr: u64) -> Result<(), NoMemory>
+        requires { IsAddress (length self.old) addr }
+        ensures ok { OnOk result (self.new ≡ flush_at thread addr self.old) }
+        ensures err { OnErr result (self.new ≡ self.old) }
+        ensures len { length self.new ≡ length self.old }
+    {
+        let first = word_index(addr) / LINE_WORDS * LINE_WORDS;
+        reserve_line(&mut self.pending, first)?;
+        note(&mut self.marked, self.alloc, thread, line_index(addr))?;
+        mark_line(&mut self.pending, thread, first);
+        Ok(())
+    }
+
+    /// Makes the values that a thread has marked durable, in time in proportion to the lines that it
+    /// has flushed since its last fence. Takes no memory.
+    #[tactic(auto, using(crate::proofs::ViewLemmas::length_words_of))]
+    pub fn fence(&mut self, thread: u16)
+        ensures words { self.new ≡ fence_by thread self.old }
+        ensures len { length self.new ≡ length self.old }
+    {
+        match self.marked.swap_remove(&thread) {
+            Some(lines) => fence_lines(&mut self.pending, thread, &lines),
+            None => {}
+        }
+    }
+
+    /// The values that a crash may leave in the word at a byte address, the durable one first and the
+    /// present one last.
+    #[tactic(auto, using(crate::proofs::ViewLemmas::length_words_of, crate::proofs::ViewLemmas::words_of_at))]
+    pub fn pending(&self, addr: u64) -> Result<Vec<u64>, NoMemory>
+        requires { IsAddress (length self.now) addr }
+        ensures list { IfOk result (λ list. list.items ≡ crash_list (word_at self.now addr)) }
+    {
+        let index = word_index(addr);
+        let mut list = older_of(&self.pending, self.alloc, index)?;
+        list.push(self.present[index])?;
+        Ok(list)
+    }
+
+    /// Leaves in each word the value of its list that the choice names. All words are durable after.
+    /// Takes no memory.
+    #[tactic(auto, using(crate::proofs::ViewLemmas::length_words_of))]
+    pub fn crash(&mut self, pick: Choice)
+        ensures words { self.new ≡ after_crash pick self.old }
+        ensures len { length self.new ≡ length self.old }
+    {
+        settle(&mut self.present, &self.pending, pick);
+        self.pending.clear();
+        self.marked.clear();
+    }
+
     /// The present value of each word.
     #[tactic(auto, using(crate::proofs::ViewLemmas::present_words_of, crate::proofs::ViewLemmas::length_words_of))]
     pub fn image(&self) -> Result<Image, NoMemory>
@@ -100,4 +192,12 @@ fn word_index(addr: u64) -> usize
     ensures place { result ≡ addr / 8 }
 {
     (addr / WORD_BYTES) as usize
+}
+
+// The place of the line that a byte address is in.
+fn line_index(addr: u64) -> u32
+    requires { addr < 2 ^ 32 }
+    ensures place { result ≡ addr / 64 }
+{
+    (addr / LINE_BYTES) as u32
 }

@@ -1,5 +1,6 @@
 -- Lemmas of the crate.
 pub mod Answered
 pub mod Known
-pub mod Pages
+pub mod ImageWords
+mod Pages
 pub mod Stops

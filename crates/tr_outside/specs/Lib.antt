@@ -2,5 +2,6 @@
 pub mod Adapter
 pub mod Causes
 pub mod ImageBytes
+pub mod ImageRead
 pub mod Memory
 pub mod Whole

@@ -7,6 +7,8 @@
 mod counting;
 mod file;
 mod image;
+mod image_fault;
+mod image_read;
 mod memory;
 mod standard;
 mod traits;
@@ -14,6 +16,8 @@ mod whole;
 
 pub use file::{FileSink, FileSource};
 pub use image::write_image;
+pub use image_fault::ImageFault;
+pub use image_read::read_image;
 pub use memory::{MemSink, MemSource};
 pub use standard::{StdSink, StdSource};
 pub use traits::{Failed, Sink, Source};
