@@ -24,3 +24,15 @@ pub mod World
 pub mod Windows
 -- what a trace shows
 pub mod Traces
+-- paths as texts
+pub mod Paths
+-- what the kernel's tables say, and their rules
+pub mod KernelTables
+-- the journal as it is read
+pub mod Journal
+-- which rule of the kernel's pages fails first
+pub mod KernelRules
+-- which coffer a path lies in
+pub mod PathMap
+-- what the kernel reads
+pub mod Kernel

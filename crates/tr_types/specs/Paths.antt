@@ -1,0 +1,34 @@
+-- Paths as texts: what is one, and which path lies under another.
+use Rattle.std.specs.Prelude.{ℕ, List, [], ◌∷◌, ◌++◌, length, Bool, false, not, ◌&&◌, ◌||◌, ◌==◌, nat_le, nat_eq, codes}
+use Rattle.std.specs.List.{list_all, starts_with}
+use Rattle.std.specs.Cmp.Lexicographic.{pointwise}
+use Rattle.tr_types.specs.Tree.{parts_of}
+
+abbrev pub same_text : List ℕ → List ℕ → Bool
+same_text = pointwise nat_eq
+
+-- a byte of a name: a printable one other than the blank and `/`
+abbrev pub is_name_byte : ℕ → Bool
+is_name_byte byte = nat_le 33 byte && nat_le byte 126 && not (byte == 47)
+
+-- a name of any length
+abbrev pub is_name_text : List ℕ → Bool
+is_name_text name = not (length name == 0) && list_all is_name_byte name && not (same_text name (codes ".")) && not (same_text name (codes ".."))
+
+-- what stands between slashes is nothing, and then one name or more
+abbrev pub are_names_after : List (List ℕ) → Bool
+are_names_after [] = false
+are_names_after (front ∷ []) = false
+are_names_after (front ∷ name ∷ names) = (length front == 0) && list_all is_name_text (name ∷ names)
+
+-- a path is `/`, or names each after a `/`
+abbrev pub is_path_text : List ℕ → Bool
+is_path_text path = same_text path (codes "/") || are_names_after (parts_of path)
+
+-- By whole names, a path begins with another: it is that path, or goes on after it with a `/`, or that path is `/`.
+abbrev pub begins_with : List ℕ → List ℕ → Bool
+begins_with path front = same_text path front || starts_with nat_eq path (front ++ 47 ∷ []) || same_text front (codes "/")
+
+-- it begins with another, and isn't it
+abbrev pub lies_under : List ℕ → List ℕ → Bool
+lies_under path front = begins_with path front && not (same_text path front)
