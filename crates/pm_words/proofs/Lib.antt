@@ -4,5 +4,6 @@ mod HeldLemmas
 mod PlaceLemmas
 mod LineLemmas
 mod ViewLemmas
+mod DurableLemmas
 pub mod HistoryLemmas
 pub mod CrashLemmas
