@@ -5,5 +5,6 @@ mod PlaceLemmas
 mod LineLemmas
 mod ViewLemmas
 mod DurableLemmas
+mod SettleLemmas
 pub mod HistoryLemmas
 pub mod CrashLemmas

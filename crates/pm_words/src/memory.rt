@@ -189,14 +189,13 @@ impl Words {
     }
 
     /// Leaves in each word the value of its list that the choice names. All words are durable after.
-    /// Takes no memory.
+    /// Takes no memory, and time in proportion to the words that are pending.
     #[tactic(auto, using(crate::proofs::ViewLemmas::length_words_of))]
     pub fn crash(&mut self, pick: Choice)
         ensures words { self.new ≡ after_crash pick self.old }
         ensures len { length self.new ≡ length self.old }
     {
-        settle(&mut self.present, &self.pending, pick);
-        self.pending.clear();
+        settle(&mut self.present, &mut self.pending, pick);
         self.marked.clear();
     }
 
