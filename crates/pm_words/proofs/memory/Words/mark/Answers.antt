@@ -2,7 +2,7 @@ use Rattle.std.proofs.Common.{◌*◌, ◌/◌, ◌∙◌, arith}
 use Rattle.pm_words.proofs.PlaceLemmas.{on_err, same_then, same_flushed}
 use Rattle.pm_words.proofs.LineLemmas.{same_sound, flushed_sound}
 use Rattle.pm_words.proofs.ViewLemmas.{same_words, flush_is}
-use Rattle.pm_words.proofs.memory.Words.flush.Goals as goal
+use Rattle.pm_words.proofs.memory.Words.mark.Goals as goal
 
 pub returns-in_err-reserve_line-clause-err : goal.returns-in_err-reserve_line-clause-err
 returns-in_err-reserve_line-clause-err c = on_err _ (same_words _ _ _ c.in_err-reserve_line.ensures.same ∙ c.self.view_is)
@@ -17,11 +17,11 @@ invariant_of-self-in_err-note c =
 -- the words before the line's marks show what the memory showed
 pub invariant_of-self-2 : goal.invariant_of-self-2
 invariant_of-self-2 c =
-    let place = c.word_index.ensures.place in
+    let place = c.line_start-first.ensures.place in
     let line = c.line_index.ensures.place in
     let same = c.in_ok-reserve_line.ensures.same in
     let room = c.in_ok-reserve_line.ensures.pending _ c.self.invariant.pending in
-    flushed_sound _ c.self.inside.marked.entries _ c.self.inside.pending.entries _ c.args.thread c.line_index.result (c.word_index.result / 8 * 8)
+    flushed_sound _ c.self.inside.marked.entries _ c.self.inside.pending.entries _ c.args.thread c.line_index.result c.line_start-first.result
     c.self.invariant (c.mark_line.ensures.pending _ room) c.in_ok-note.ensures.kept c.in_ok-note.ensures.others c.in_ok-note.ensures.ok (omega (arith, place, line))
     (λ k low high. same_flushed c.args.thread _ _ _ k (same k) (c.mark_line.ensures.marked k low high))
     (λ k low. same_then _ _ _ k (same k) (c.mark_line.ensures.before k low))
@@ -29,9 +29,9 @@ invariant_of-self-2 c =
 
 pub returns-clause-ok : goal.returns-clause-ok
 returns-clause-ok c =
-    let place = c.word_index.ensures.place in
+    let place = c.line_start-first.ensures.place in
     let same = c.in_ok-reserve_line.ensures.same in
-    flush_is _ _ _ _ c.args.thread c.args.addr (c.word_index.result / 8 * 8) c.self.view_is (omega (arith, place))
+    flush_is _ _ _ _ c.args.thread c.args.addr c.line_start-first.result c.self.view_is place
     (λ k low high. same_flushed c.args.thread _ _ _ k (same k) (c.mark_line.ensures.marked k low high))
     (λ k low. same_then _ _ _ k (same k) (c.mark_line.ensures.before k low))
     (λ k high. same_then _ _ _ k (same k) (c.mark_line.ensures.after k high))
