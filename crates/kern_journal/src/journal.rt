@@ -2,7 +2,7 @@
 ghost use Rattle.std.specs.Prelude.{◌≡◌, ◌<◌, ◌≤◌, ◌↔◌, length, take, All, OnOk, IfOk};
 ghost use Rattle.std.specs.Result.{IsErrOf};
 ghost use Rattle.zo_layout.specs.Layout as layout;
-ghost use Rattle.pm_words.specs.Memory.{word_at, IsAddress};
+ghost use Rattle.pm_words.specs.Memory.{IsAddress, HasPages};
 ghost use Rattle.tr_types.specs.KernelView.{pages_of};
 ghost use Rattle.kern_journal.specs.Inner.{made_all, IsCut};
 ghost use Rattle.kern_journal.specs.Journal as spec;
@@ -10,7 +10,7 @@ ghost use Rattle.kern_journal.specs.Journal as spec;
 use crate::events::{finish_events, journal_events};
 use crate::inner::make_all;
 use pm_words::{NoMemory, Words};
-use std::alloc::{AllocError, Global};
+use std::alloc::Global;
 use thiserror::Error;
 use zo_layout::{committed_word, pair_address, pair_value};
 
@@ -33,8 +33,10 @@ pub fn capacity(words: &Words) -> u32
 
 /// How many pairs are committed: what stands in word 0 of the journal. Takes no memory.
 pub fn committed_count(words: &Words) -> u64
-    ensures { result ≡ spec.committed_count words.now }
+    ensures count { result ≡ spec.committed_count words.now }
+    ensures size { HasPages (length words.now) }
 {
+    // Every image has room for the journal.
     let _pages = words.pages();
     words.load(committed_word())
 }
@@ -109,7 +111,7 @@ pub fn redo(alloc: Global, words: &mut Words) -> Result<(), NoMemory>
 }
 
 /// The committed pairs in their order, each an address and a value.
-pub fn committed(alloc: Global, words: &Words) -> Result<Vec<(u64, u64)>, AllocError>
+pub fn committed(alloc: Global, words: &Words) -> Result<Vec<(u64, u64)>, NoMemory>
     requires { spec.IsReadable words.now }
     ensures { IfOk result (λ pairs. pairs.items ≡ spec.committed words.now) }
 {
@@ -122,7 +124,8 @@ pub fn committed(alloc: Global, words: &Words) -> Result<Vec<(u64, u64)>, AllocE
 
 // Pair `i` of the journal.
 fn pair(words: &Words, i: u32) -> (u64, u64)
-    requires { i < layout.pair_capacity (pages_of words.now) }
+    requires size { HasPages (length words.now) }
+    requires room { i < layout.pair_capacity (pages_of words.now) }
     ensures { result ≡ spec.pair_at words.now i }
 {
     (words.load(pair_address(i)), words.load(pair_value(i)))

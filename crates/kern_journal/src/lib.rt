@@ -7,9 +7,14 @@
 #![tactic(auto)]
 
 mod events;
+mod image;
 mod inner;
 mod journal;
 mod lines;
 
+pub use image::new_image;
 pub use inner::Inner;
 pub use journal::{JournalFault, apply, apply_first, capacity, committed_count, kernel_word, redo};
+
+#[cfg(test)]
+mod tests;
