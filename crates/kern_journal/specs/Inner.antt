@@ -1,5 +1,5 @@
 -- The inner events of the journal: what it does with the memory, one step at a time.
-use Rattle.std.specs.Prelude.{◌≡◌, ℕ, ◌*◌, ◌/◌, ◌<◌, ◌==◌, nat_lt, List, [], ◌∷◌, ◌++◌, length, map, take, fold, slice_index, ⊤, if◌then◌else◌}
+use Rattle.std.specs.Prelude.{◌≡◌, ℕ, ◌+◌, ◌*◌, ◌/◌, ◌≤◌, ◌==◌, nat_lt, List, [], ◌∷◌, ◌++◌, map, take, fold, ⊤, if◌then◌else◌}
 use Rattle.pm_words.specs.Word.{Word}
 use Rattle.pm_words.specs.Memory.{store_at, flush_at, fence_by, IsAddress}
 use Rattle.kern_journal.specs.declared.inner.Inner.{Inner}
@@ -38,9 +38,14 @@ abbrev pub with_line : ℕ → List ℕ → List ℕ
 with_line line [] = line ∷ []
 with_line line (l ∷ ls) = if line == l then l ∷ ls else (if nat_lt line l then line ∷ l ∷ ls else l ∷ with_line line ls)
 
--- each line is before the next
+-- each line is past the one before it, and the first at a bound or past it
+abbrev pub RisesFrom : ℕ → List ℕ → Type 0
+RisesFrom bound [] = ⊤
+RisesFrom bound (l ∷ ls) = (bound ≤ l) × RisesFrom (l + 1) ls
+
+-- lines in order of address, each once
 abbrev pub IsAscending : List ℕ → Type 0
-IsAscending lines = (i j : ℕ) → i < j → j < length lines → slice_index lines i < slice_index lines j
+IsAscending lines = RisesFrom 0 lines
 
 -- the lines that the pairs' addresses are in, each once, in order of address
 abbrev pub lines_of : List (ℕ × ℕ) → List ℕ
@@ -49,10 +54,10 @@ lines_of pairs = fold (λ lines p. with_line (line_of p.0) lines) [] pairs
 abbrev pub stores_of : List (ℕ × ℕ) → List Inner
 stores_of pairs = map (λ p. Store p.0 p.1) pairs
 
-abbrev pub flushes_of : List (ℕ × ℕ) → List Inner
-flushes_of pairs = map (λ line. Flush line) (lines_of pairs)
+abbrev pub flushes_at : List ℕ → List Inner
+flushes_at lines = map (λ line. Flush line) lines
 
 -- The pairs (address, value) are made durable: each value is stored, each line flushed once, in order of address, and
 -- then comes a fence.
 abbrev pub phase : List (ℕ × ℕ) → List Inner
-phase pairs = stores_of pairs ++ flushes_of pairs ++ Fence ∷ []
+phase pairs = stores_of pairs ++ (flushes_at (lines_of pairs) ++ Fence ∷ [])

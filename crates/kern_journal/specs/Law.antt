@@ -1,5 +1,6 @@
 -- What the journal's events leave, whole or cut by crashes.
-use Rattle.std.specs.Prelude.{◌≡◌, ◌≢◌, ℕ, ◌≤◌, List, [], ◌∷◌, map, length, take, nat_eq, All, Contains, IsDistinct, ◌⊎◌}
+use Rattle.std.specs.Prelude.{◌≡◌, ◌≢◌, ℕ, ◌≤◌, List, [], ◌∷◌, map, length, take, nat_eq, All, Contains, ◌⊎◌}
+use Rattle.std.specs.List.{IsDistinct}
 use Rattle.zo_layout.specs.Layout.{committed_word, pair_capacity}
 use Rattle.pm_words.specs.Word.{Word, crash_list}
 use Rattle.pm_words.specs.Memory.{word_at, HasPages}

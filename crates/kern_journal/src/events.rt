@@ -1,6 +1,6 @@
 // The journal's steps, as lists.
 ghost use Rattle.std.specs.Prelude.{◌≡◌, ◌≤◌, ◌++◌, length, IfOk, OnOk, ◌<◌, ◌^◌};
-ghost use Rattle.kern_journal.specs.Inner.{phase};
+ghost use Rattle.kern_journal.specs.Inner.{phase, stores_of, flushes_at};
 ghost use Rattle.kern_journal.specs.Journal as spec;
 
 use crate::inner::Inner;
@@ -49,13 +49,27 @@ fn push_phase(
 ) -> Result<(), AllocError>
     ensures { OnOk result (events.new.items ≡ events.old.items ++ phase pairs.now) }
 {
+    push_stores(events, pairs)?;
+    push_flushes(events, &lines_of(alloc, pairs)?)?;
+    events.push(Inner::Fence)?;
+    Ok(())
+}
+
+fn push_stores(events: &mut Vec<Inner>, pairs: &[(u64, u64)]) -> Result<(), AllocError>
+    ensures { OnOk result (events.new.items ≡ events.old.items ++ stores_of pairs.now) }
+{
     for &(addr, value) in pairs {
         events.push(Inner::Store { addr, value })?;
     }
-    for &addr in &lines_of(alloc, pairs)? {
+    Ok(())
+}
+
+fn push_flushes(events: &mut Vec<Inner>, lines: &[u64]) -> Result<(), AllocError>
+    ensures { OnOk result (events.new.items ≡ events.old.items ++ flushes_at lines.now) }
+{
+    for &addr in lines {
         events.push(Inner::Flush { addr })?;
     }
-    events.push(Inner::Fence)?;
     Ok(())
 }
 
