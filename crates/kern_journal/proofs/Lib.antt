@@ -4,3 +4,5 @@ mod NewImageLemmas
 mod LineLemmas
 -- one pair more, and where the events are
 mod EventLemmas
+-- what events do to one word
+mod WordSteps

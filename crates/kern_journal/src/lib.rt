@@ -10,11 +10,13 @@ mod events;
 mod image;
 mod inner;
 mod journal;
+mod laws;
 mod lines;
 
 pub use image::new_image;
 pub use inner::Inner;
 pub use journal::{JournalFault, apply, apply_first, capacity, committed_count, kernel_word, redo};
+pub use laws::{apply_law, crash_law, cut_law, view_law};
 
 #[cfg(test)]
 mod tests;

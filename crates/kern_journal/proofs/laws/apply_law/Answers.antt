@@ -1,0 +1,4 @@
+use Rattle.kern_journal.proofs.laws.apply_law.Goals as goal
+
+pub returns : goal.returns
+returns c = ?
