@@ -6,3 +6,7 @@ mod LineLemmas
 mod EventLemmas
 -- what events do to one word
 mod WordSteps
+-- which words pairs name
+mod LaidLemmas
+-- what a phase leaves
+mod PhaseLemmas
