@@ -10,3 +10,5 @@ mod WordSteps
 mod LaidLemmas
 -- what a phase leaves
 mod PhaseLemmas
+-- what finishing pairs leaves
+mod FinishLemmas
