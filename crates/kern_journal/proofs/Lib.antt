@@ -12,3 +12,5 @@ mod LaidLemmas
 mod PhaseLemmas
 -- what finishing pairs leaves
 mod FinishLemmas
+-- what crashes between events leave
+mod CutLemmas
