@@ -23,15 +23,15 @@ use Rattle.kern_journal.proofs.PhaseLemmas.{IsInJournal, take_past, one_value, p
 use Rattle.kern_journal.proofs.FinishLemmas.{IsList, list_over, home_over, addresses, IsFinish, finish_is, committed_list, ready_list, own_values}
 
 -- what a crash leaves of one word
-within_crash : (words mid : List Word) (addr : ℕ) → MayLeave words mid → addr / 8 < length words → Within (word_at words addr) (word_at mid addr)
+pub within_crash : (words mid : List Word) (addr : ℕ) → MayLeave words mid → addr / 8 < length words → Within (word_at words addr) (word_at mid addr)
 within_crash words mid addr leave lt value there =
     let none : (word_at mid addr).older ≡ [] = ap (λ (w : Word). w.older) (leave.durable (addr / 8) lt) in
     subst (λ (n : ℕ). Contains (crash_list (word_at words addr)) n) (sym (one_value (word_at mid addr).older (word_at mid addr).present value none there)) (leave.value (addr / 8) lt)
 
-crashed : (words mid : List Word) (addr : ℕ) → MayLeave words mid → addr / 8 < length words → IsDurable mid addr (word_at mid addr).present
+pub crashed : (words mid : List Word) (addr : ℕ) → MayLeave words mid → addr / 8 < length words → IsDurable mid addr (word_at mid addr).present
 crashed words mid addr leave lt = record { present = refl; older = ap (λ (w : Word). w.older) (leave.durable (addr / 8) lt) }
 
-durable_crashed : (words mid : List Word) (addr value : ℕ) → MayLeave words mid → addr / 8 < length words → IsDurable words addr value → IsDurable mid addr value
+pub durable_crashed : (words mid : List Word) (addr value : ℕ) → MayLeave words mid → addr / 8 < length words → IsDurable words addr value → IsDurable mid addr value
 durable_crashed words mid addr value leave lt durable = record {
   present = one_value (word_at words addr).older (word_at words addr).present (word_at mid addr).present durable.older (leave.value (addr / 8) lt) ∙ durable.present;
   older = (crashed words mid addr leave lt).older;
@@ -68,7 +68,7 @@ read_is after i (p ∷ ps) all =
 pub committed_is : (pairs : List (ℕ × ℕ)) (old after : List Word) → IsCommitted pairs old after → committed after ≡ pairs
 committed_is pairs old after state = ap (λ (n : ℕ). map (pair_at after) (range_with_len 0 n)) state.count.present ∙ read_is after 0 pairs state.journal
 
-none_committed : (after : List Word) → IsDurable after committed_word 0 → committed after ≡ []
+pub none_committed : (after : List Word) → IsDurable after committed_word 0 → committed after ≡ []
 none_committed after count = ap (λ (n : ℕ). map (pair_at after) (range_with_len 0 n)) count.present
 
 -- a crash inside of finishing committed pairs

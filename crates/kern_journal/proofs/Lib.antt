@@ -14,3 +14,5 @@ mod PhaseLemmas
 mod FinishLemmas
 -- what crashes between events leave
 mod CutLemmas
+-- crashes one after another
+mod CrashLemmas

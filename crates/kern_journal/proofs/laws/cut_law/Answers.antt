@@ -1,5 +1,5 @@
-use Rattle.kern_journal.proofs.CutLemmas.{cut_committed}
+use Rattle.kern_journal.proofs.CrashLemmas.{cut_anywhere}
 use Rattle.kern_journal.proofs.laws.cut_law.Goals as goal
 
 pub returns : goal.returns
-returns c = let cut = cut_committed in ?
+returns c = cut_anywhere
