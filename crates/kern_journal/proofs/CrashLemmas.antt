@@ -58,9 +58,9 @@ idle_cut after mid k size count leave = record {
   len = left.len ∙ length_run es after;
   count = idle_count after mid k (count_inside (length after) size).inside count left;
   kept = λ addr home value there.
-    within_shortened (word_at after addr) (word_at late addr) (kept_by es after addr home.inside.inside (spares addr home)) value (within_crash late mid addr left (inside_late addr home.inside.inside) value there);
+      within_shortened (word_at after addr) (word_at late addr) (kept_by es after addr home.inside.inside (spares addr home)) value (within_crash late mid addr left (inside_late addr home.inside.inside) value there);
   durable = λ addr value home durable.
-    durable_crashed late mid addr value left (inside_late addr home.inside.inside) (durable_kept es after addr value home.inside.inside (spares addr home) durable);
+      durable_crashed late mid addr value left (inside_late addr home.inside.inside) (durable_kept es after addr value home.inside.inside (spares addr home) durable);
 }
   where
     es : List Inner
@@ -78,7 +78,7 @@ idle_cut after mid k size count leave = record {
     spares : (addr : ℕ) → IsHome (length after) addr → All (Spares addr) es
     spares addr home =
         All-take (Spares addr) k (finish_events [])
-            (All-append (Spares addr) (phase []) (phase (count_pair 0)) (phase_spares addr [] (All-nil (λ (p : ℕ × ℕ). p.0 / 8 ≢ addr / 8))) (home_from_count (length after) addr 0 home))
+        (All-append (Spares addr) (phase []) (phase (count_pair 0)) (phase_spares addr [] (All-nil (λ (p : ℕ × ℕ). p.0 / 8 ≢ addr / 8))) (home_from_count (length after) addr 0 home))
 
 -- crashes inside of one `redo` after another
 size_over : (one two : ℕ) → two ≡ one → HasPages one → HasPages two
@@ -110,7 +110,7 @@ cuts_committed : (cuts : List ℕ) (pairs : List (ℕ × ℕ)) (old after final 
 cuts_committed [] pairs old after final list state same = inl (subst (IsCommitted pairs old) (sym same) state)
 cuts_committed (k ∷ ks) pairs old after final list state (mid, leave, rest) =
     by (cut_committed pairs old after mid k list state (subst (λ (ps : List (ℕ × ℕ)). MayLeave (made_all (take k (finish_events ps)) after) mid) (committed_is pairs old after state) leave))
-        (λ next. cuts_committed ks pairs old mid final list next rest)
+    (λ next. cuts_committed ks pairs old mid final list next rest)
   where
     by : IsCommitted pairs old mid ⊎ IsStored pairs old mid → (IsCommitted pairs old mid → IsCommitted pairs old final ⊎ IsStored pairs old final) → IsCommitted pairs old final ⊎ IsStored pairs old final
     by (inl next) go = go next
@@ -137,7 +137,7 @@ redone_committed pairs old after list state =
 redone_idle : (after : List Word) → HasPages (length after) → IsDurable after committed_word 0 → IsFinish [] after (made_all (redo_events after) after)
 redone_idle after size count =
     subst (λ (ps : List (ℕ × ℕ)). IsFinish [] after (made_all (finish_events ps) after)) (sym (none_committed after count))
-        (finish_is after [] (record { size = size; room = omega arith; homes = All-nil (λ (p : ℕ × ℕ). IsHome (length after) p.0) }))
+    (finish_is after [] (record { size = size; room = omega arith; homes = All-nil (λ (p : ℕ × ℕ). IsHome (length after) p.0) }))
 
 own_present : (old after new : Word) → Within old after → Shortened after new → Contains (crash_list old) new.present
 own_present old after new within short = within new.present (within_shortened after new short new.present (Contains-push new.older new.present))
@@ -157,16 +157,16 @@ ended_committed pairs old after list state =
       done = finish.done;
       idle = finish.idle;
       others = λ addr home none.
-        own_present (word_at old addr) (word_at after addr) (word_at (made_all (redo_events after) after) addr) (state.others addr home none) (finish.others addr (home_over (length old) (length after) addr state.len home) none);
+          own_present (word_at old addr) (word_at after addr) (word_at (made_all (redo_events after) after) addr) (state.others addr home none) (finish.others addr (home_over (length old) (length after) addr state.len home) none);
     }
 
 ended_stored : (pairs : List (ℕ × ℕ)) (old after : List Word) → IsList (length old) pairs → IsStored pairs old after → IsEnded pairs old (made_all (redo_events after) after)
 ended_stored pairs old after list state = record {
   len = finish.len ∙ state.len;
   done = λ i d lt.
-    let p = get_or pairs i d in
-    let short = same p.0 (list.homes i d lt) in
-    record { present = short.present ∙ (state.done i d lt).present; older = still_durable (word_at after p.0) (word_at new p.0) short (state.done i d lt).older };
+      let p = get_or pairs i d in
+      let short = same p.0 (list.homes i d lt) in
+      record { present = short.present ∙ (state.done i d lt).present; older = still_durable (word_at after p.0) (word_at new p.0) short (state.done i d lt).older };
   idle = finish.idle;
   others = λ addr home none. own_present (word_at old addr) (word_at after addr) (word_at new addr) (state.others addr home none) (same addr home);
 }
@@ -186,7 +186,7 @@ says_own words i zero = All-nil (λ (p : ℕ × ℕ). (word_at words p.0).presen
 says_own words i (suc n) =
     let rest = journal_words (i + 1) (map (pair_at words) (range_with_len (i + 1) n)) in
     All-cons (λ (p : ℕ × ℕ). (word_at words p.0).present ≡ p.1) (pair_address i, (pair_at words i).0) ((pair_value i, (pair_at words i).1) ∷ rest) refl
-        (All-cons (λ (p : ℕ × ℕ). (word_at words p.0).present ≡ p.1) (pair_value i, (pair_at words i).1) rest refl (says_own words (i + 1) n))
+    (All-cons (λ (p : ℕ × ℕ). (word_at words p.0).present ≡ p.1) (pair_value i, (pair_at words i).1) rest refl (says_own words (i + 1) n))
 
 begins_committed : (words : List Word) → IsSettled words → IsCommitted (committed words) words words
 begins_committed words settled = record {
@@ -209,9 +209,10 @@ cut_anywhere words cuts after size readable settled come = by (cuts_committed cu
     told ended early = record { len = ended.len; done = ended.done; idle = ended.idle; others = ended.others; early = early }
 
     by : IsCommitted pairs words after ⊎ IsStored pairs words after → IsReadable after × IsRedone words after (made_all (redo_events after) after)
-    by (inl state) =
-        (committed_readable pairs words after list state,
-         told (ended_committed pairs words after list state) (λ none i d lt. let count = state.count.present in absurd (omega (arith, count, none, lt))))
+    by (inl state) = (
+      committed_readable pairs words after list state,
+      told (ended_committed pairs words after list state) (λ none i d lt. let count = state.count.present in absurd (omega (arith, count, none, lt))),
+    )
     by (inr state) = (idle_readable after state.count, told (ended_stored pairs words after list state) (λ none. state.done))
 
 -- a crash inside of the list of events
@@ -263,11 +264,11 @@ first_crash words pairs left k ready leave = by (cases_lt (length (phase (journa
     early cut = record {
       len = cut.len ∙ length_run (take k written) words;
       count = durable_crashed (made_all (take k written) words) left committed_word 0 cut (inside_run (take k written) words committed_word word_inside)
-        (durable_kept (take k written) words committed_word 0 word_inside (All-take (Spares committed_word) k written (count_from_words pairs)) ready.idle);
+          (durable_kept (take k written) words committed_word 0 word_inside (All-take (Spares committed_word) k written (count_from_words pairs)) ready.idle);
       homes = λ addr home value there.
-        within_shortened (word_at words addr) (word_at (made_all (take k written) words) addr)
-            (kept_by (take k written) words addr home.inside.inside (All-take (Spares addr) k written (home_from_words count addr pairs ready.room home))) value
-            (within_crash (made_all (take k written) words) left addr cut (inside_run (take k written) words addr home.inside.inside) value there);
+          within_shortened (word_at words addr) (word_at (made_all (take k written) words) addr)
+          (kept_by (take k written) words addr home.inside.inside (All-take (Spares addr) k written (home_from_words count addr pairs ready.room home))) value
+          (within_crash (made_all (take k written) words) left addr cut (inside_run (take k written) words addr home.inside.inside) value there);
     }
 
     -- their number is
@@ -293,16 +294,16 @@ first_crash words pairs left k ready leave = by (cases_lt (length (phase (journa
         homes addr home value there =
             let inside = home.inside.inside in
             within_shortened (word_at words addr) (word_at late addr)
-                (shortened_then (word_at words addr) (word_at first addr) (word_at late addr) (homes_first addr home)
-                    (kept_by (take j counted) first addr (inside_first addr inside) (All-take (Spares addr) j counted (home_from_count count addr (length pairs) home))))
-                value (within_crash late left addr cut (inside_late addr inside) value there)
+            (shortened_then (word_at words addr) (word_at first addr) (word_at late addr) (homes_first addr home)
+            (kept_by (take j counted) first addr (inside_first addr inside) (All-take (Spares addr) j counted (home_from_count count addr (length pairs) home))))
+            value (within_crash late left addr cut (inside_late addr inside) value there)
 
         journal : All (λ (p : ℕ × ℕ). IsDurable left p.0 p.1) (journal_words 0 pairs)
         journal i d lt =
             let p = get_or (journal_words 0 pairs) i d in
             let inside = (words_inside i d lt).inside in
             durable_crashed late left p.0 p.1 cut (inside_late p.0 inside)
-                (durable_kept (take j counted) first p.0 p.1 (inside_first p.0 inside) (All-take (Spares p.0) j counted (words_from_count p.0 (length pairs) (words_behind 0 pairs i d lt))) (journal_first i d lt))
+            (durable_kept (take j counted) first p.0 p.1 (inside_first p.0 inside) (All-take (Spares p.0) j counted (words_from_count p.0 (length pairs) (words_behind 0 pairs i d lt))) (journal_first i d lt))
 
         which : ((word_at left committed_word).present ≡ 0) ⊎ ((word_at left committed_word).present ≡ length pairs) → IsLeft words left ⊎ (IsCommitted pairs words left ⊎ IsStored pairs words left)
         which (inl e) = inl (record { len = len; count = record { present = e; older = older }; homes = homes })
@@ -317,8 +318,8 @@ first_crash words pairs left k ready leave = by (cases_lt (length (phase (journa
       len = begun.len;
       count = count_done first (length pairs) (count_inside (length first) (size_over count (length first) (length_run written words) ready.size));
       journal = λ i d lt.
-        let p = get_or (journal_words 0 pairs) i d in
-        durable_kept counted first p.0 p.1 (inside_run written words p.0 (words_inside i d lt).inside) (words_from_count p.0 (length pairs) (words_behind 0 pairs i d lt)) (journal_first i d lt);
+          let p = get_or (journal_words 0 pairs) i d in
+          durable_kept counted first p.0 p.1 (inside_run written words p.0 (words_inside i d lt).inside) (words_from_count p.0 (length pairs) (words_behind 0 pairs i d lt)) (journal_first i d lt);
       others = λ addr home none. within_shortened (word_at words addr) (word_at second addr) (begun.homes addr home);
     }
 
@@ -326,15 +327,15 @@ first_crash words pairs left k ready leave = by (cases_lt (length (phase (journa
     past j (inr le) cut = middle j (subst (λ (es : List Inner). MayLeave (made_all es first) left) (take-append-le j counted (finish_events pairs) le) cut)
     past j (inl lt) cut =
         inr (cut_committed pairs words second left (j - length counted) list at_second
-            (subst (λ (now : List Word). MayLeave now left)
-                (ap (λ (es : List Inner). made_all es first) (take_past j counted (finish_events pairs) (omega (arith, lt))) ∙ fold-append made first counted (take (j - length counted) (finish_events pairs))) cut))
+        (subst (λ (now : List Word). MayLeave now left)
+        (ap (λ (es : List Inner). made_all es first) (take_past j counted (finish_events pairs) (omega (arith, lt))) ∙ fold-append made first counted (take (j - length counted) (finish_events pairs))) cut))
 
     by : (length written < k) ⊎ (k ≤ length written) → IsLeft words left ⊎ (IsCommitted pairs words left ⊎ IsStored pairs words left)
     by (inr le) = inl (early (subst (λ (es : List Inner). MayLeave (made_all es words) left) (take-append-le k written (counted ++ finish_events pairs) le) leave))
     by (inl lt) =
         past (k - length written) (cases_lt (length counted) (k - length written))
-            (subst (λ (now : List Word). MayLeave now left)
-                (ap (λ (es : List Inner). made_all es words) (take_past k written (counted ++ finish_events pairs) (omega (arith, lt))) ∙ fold-append made words written (take (k - length written) (counted ++ finish_events pairs))) leave)
+        (subst (λ (now : List Word). MayLeave now left)
+        (ap (λ (es : List Inner). made_all es words) (take_past k written (counted ++ finish_events pairs) (omega (arith, lt))) ∙ fold-append made words written (take (k - length written) (counted ++ finish_events pairs))) leave)
 
 pub crash_anywhere : CrashLaw
 crash_anywhere words pairs k cuts left after ready leave come = by (first_crash words pairs left k ready leave)
@@ -349,12 +350,15 @@ crash_anywhere words pairs k cuts left after ready leave come = by (first_crash 
     all ended = record { len = ended.len; either = inl (own_values pairs new words ready ended.done); idle = ended.idle; others = ended.others }
 
     none : IsLeft words after → IsReadable after × IsAllOrNone pairs words new
-    none state = (idle_readable after state.count, record {
-      len = finish.len ∙ state.len;
-      either = inr (λ i d lt. own (get_or pairs i d).0 (list.homes i d lt));
-      idle = finish.idle;
-      others = λ addr home unnamed. own addr home;
-    })
+    none state = (
+      idle_readable after state.count,
+      record {
+        len = finish.len ∙ state.len;
+        either = inr (λ i d lt. own (get_or pairs i d).0 (list.homes i d lt));
+        idle = finish.idle;
+        others = λ addr home unnamed. own addr home;
+      },
+    )
       where
         finish : IsFinish [] after new
         finish = redone_idle after (size_over (length words) (length after) state.len ready.size) state.count
@@ -362,7 +366,7 @@ crash_anywhere words pairs k cuts left after ready leave come = by (first_crash 
         own : (addr : ℕ) → IsHome (length words) addr → Contains (crash_list (word_at words addr)) (word_at new addr).present
         own addr home =
             own_present (word_at words addr) (word_at after addr) (word_at new addr) (state.homes addr home)
-                (finish.others addr (home_over (length words) (length after) addr state.len home) (All-nil (λ (p : ℕ × ℕ). p.0 ≢ addr)))
+            (finish.others addr (home_over (length words) (length after) addr state.len home) (All-nil (λ (p : ℕ × ℕ). p.0 ≢ addr)))
 
     whole : IsCommitted pairs words after ⊎ IsStored pairs words after → IsReadable after × IsAllOrNone pairs words new
     whole (inl state) = (committed_readable pairs words after list state, all (ended_committed pairs words after list state))

@@ -99,16 +99,16 @@ cut_committed pairs old after mid k list state leave = by (cases_lt (length (pha
     first es some left = record {
       len = left.len ∙ length_run es after ∙ state.len;
       count = durable_crashed (early es) mid committed_word (length pairs) left (inside_of es committed_word word_inside)
-        (durable_kept es after committed_word (length pairs) word_inside (some committed_word (journal_from_homes count committed_word pairs here.homes (count_in count))) state.count);
+          (durable_kept es after committed_word (length pairs) word_inside (some committed_word (journal_from_homes count committed_word pairs here.homes (count_in count))) state.count);
       journal = λ j d lt.
-        let p = get_or (journal_words 0 pairs) j d in
-        durable_crashed (early es) mid p.0 p.1 left (inside_of es p.0 (words_inside j d lt).inside)
-            (durable_kept es after p.0 p.1 (words_inside j d lt).inside (some p.0 (journal_from_homes count p.0 pairs here.homes (in_journal j d lt))) (state.journal j d lt));
+          let p = get_or (journal_words 0 pairs) j d in
+          durable_crashed (early es) mid p.0 p.1 left (inside_of es p.0 (words_inside j d lt).inside)
+          (durable_kept es after p.0 p.1 (words_inside j d lt).inside (some p.0 (journal_from_homes count p.0 pairs here.homes (in_journal j d lt))) (state.journal j d lt));
       others = λ addr home none value there.
-        let home_here = home_over (length old) count addr state.len home in
-        state.others addr home none value
-            (within_shortened (word_at after addr) (word_at (early es) addr) (kept_by es after addr home_here.inside.inside (some addr (unnamed_spared count addr pairs here.homes home_here none))) value
-                (within_crash (early es) mid addr left (inside_of es addr home_here.inside.inside) value there));
+          let home_here = home_over (length old) count addr state.len home in
+          state.others addr home none value
+          (within_shortened (word_at after addr) (word_at (early es) addr) (kept_by es after addr home_here.inside.inside (some addr (unnamed_spared count addr pairs here.homes home_here none))) value
+          (within_crash (early es) mid addr left (inside_of es addr home_here.inside.inside) value there));
     }
       where
         inside_of : (es : List Inner) (addr : ℕ) → addr / 8 < count → addr / 8 < length (early es)
@@ -144,18 +144,18 @@ cut_committed pairs old after mid k list state leave = by (cases_lt (length (pha
             let p = get_or (journal_words 0 pairs) i d in
             let inside = (words_inside i d lt).inside in
             durable_crashed late mid p.0 p.1 left (in_late p.0 inside)
-                (durable_kept (take j (phase (count_pair 0))) stored p.0 p.1 (in_stored p.0 inside) (spared p.0 (words_from_count p.0 0 (words_behind 0 pairs i d lt)))
-                    (durable_kept (phase pairs) after p.0 p.1 inside (journal_from_homes count p.0 pairs here.homes (in_journal i d lt)) (state.journal i d lt)))
+            (durable_kept (take j (phase (count_pair 0))) stored p.0 p.1 (in_stored p.0 inside) (spared p.0 (words_from_count p.0 0 (words_behind 0 pairs i d lt)))
+            (durable_kept (phase pairs) after p.0 p.1 inside (journal_from_homes count p.0 pairs here.homes (in_journal i d lt)) (state.journal i d lt)))
 
         others : (addr : ℕ) → IsHome (length old) addr → IsUnnamed pairs addr → Within (word_at old addr) (word_at mid addr)
         others addr home none value there =
             let home_here = home_over (length old) count addr state.len home in
             let inside = home_here.inside.inside in
             state.others addr home none value
-                (within_shortened (word_at after addr) (word_at late addr)
-                    (shortened_then (word_at after addr) (word_at stored addr) (word_at late addr) (kept_by (phase pairs) after addr inside (unnamed_spared count addr pairs here.homes home_here none))
-                        (kept_by (take j (phase (count_pair 0))) stored addr (in_stored addr inside) (spared addr (home_from_count count addr 0 home_here))))
-                    value (within_crash late mid addr left (in_late addr inside) value there))
+            (within_shortened (word_at after addr) (word_at late addr)
+            (shortened_then (word_at after addr) (word_at stored addr) (word_at late addr) (kept_by (phase pairs) after addr inside (unnamed_spared count addr pairs here.homes home_here none))
+            (kept_by (take j (phase (count_pair 0))) stored addr (in_stored addr inside) (spared addr (home_from_count count addr 0 home_here))))
+            value (within_crash late mid addr left (in_late addr inside) value there))
 
         done : AreDone pairs mid
         done i d lt =
@@ -163,8 +163,8 @@ cut_committed pairs old after mid k list state leave = by (cases_lt (length (pha
             let home_here = here.homes i d lt in
             let inside = home_here.inside.inside in
             durable_crashed late mid p.0 (laid_over pairs p.0 p.1) left (in_late p.0 inside)
-                (durable_kept (take j (phase (count_pair 0))) stored p.0 (laid_over pairs p.0 p.1) (in_stored p.0 inside) (spared p.0 (home_from_count count p.0 0 home_here))
-                    (all_done after pairs (addresses count pairs here) i d lt))
+            (durable_kept (take j (phase (count_pair 0))) stored p.0 (laid_over pairs p.0 p.1) (in_stored p.0 inside) (spared p.0 (home_from_count count p.0 0 home_here))
+            (all_done after pairs (addresses count pairs here) i d lt))
 
         which : ((word_at mid committed_word).present ≡ length pairs) ⊎ ((word_at mid committed_word).present ≡ 0) → IsCommitted pairs old mid ⊎ IsStored pairs old mid
         which (inl e) = inl (record { len = len; count = record { present = e; older = (crashed late mid committed_word left (in_late committed_word word_inside)).older }; journal = journal; others = others })
@@ -173,8 +173,8 @@ cut_committed pairs old after mid k list state leave = by (cases_lt (length (pha
     by : (length (phase pairs) < k) ⊎ (k ≤ length (phase pairs)) → IsCommitted pairs old mid ⊎ IsStored pairs old mid
     by (inr le) =
         inl (first (take k (phase pairs)) (λ addr all. All-take (Spares addr) k (phase pairs) all)
-            (subst (λ (es : List Inner). MayLeave (made_all es after) mid) (take-append-le k (phase pairs) (phase (count_pair 0)) le) leave))
+        (subst (λ (es : List Inner). MayLeave (made_all es after) mid) (take-append-le k (phase pairs) (phase (count_pair 0)) le) leave))
     by (inl lt) =
         past (k - length (phase pairs))
-            (subst (λ (words : List Word). MayLeave words mid)
-                (ap (λ (es : List Inner). made_all es after) (take_past k (phase pairs) (phase (count_pair 0)) (omega arith)) ∙ fold-append made after (phase pairs) (take (k - length (phase pairs)) (phase (count_pair 0)))) leave)
+        (subst (λ (words : List Word). MayLeave words mid)
+        (ap (λ (es : List Inner). made_all es after) (take_past k (phase pairs) (phase (count_pair 0)) (omega arith)) ∙ fold-append made after (phase pairs) (take (k - length (phase pairs)) (phase (count_pair 0)))) leave)

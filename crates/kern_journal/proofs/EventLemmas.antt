@@ -22,7 +22,7 @@ words_push i [] p = let here : i ≡ i + 0 = omega arith in ap (λ (n : ℕ). (p
 words_push i (q ∷ ps) p =
     let next : i + 1 + length ps ≡ i + suc (length ps) = omega arith in
     ap (λ (ws : List (ℕ × ℕ)). (pair_address i, q.0) ∷ (pair_value i, q.1) ∷ ws)
-        (words_push (i + 1) ps p ∙ ap (λ (n : ℕ). (journal_words (i + 1) ps ++ (pair_address n, p.0) ∷ []) ++ (pair_value n, p.1) ∷ []) next)
+    (words_push (i + 1) ps p ∙ ap (λ (n : ℕ). (journal_words (i + 1) ps ++ (pair_address n, p.0) ∷ []) ++ (pair_value n, p.1) ∷ []) next)
 
 pub one_pair_more : (pairs : List (ℕ × ℕ)) (i : ℕ) (d : ℕ × ℕ) → i < length pairs
     → (journal_words 0 (take i pairs) ++ (pair_address i, (get_or pairs i d).0) ∷ []) ++ (pair_value i, (get_or pairs i d).1) ∷ [] ≡ journal_words 0 (take (i + 1) pairs)
@@ -62,8 +62,8 @@ with_all : (P : ℕ → Type 0) (line : ℕ) (ls : List ℕ) → P line → All 
 with_all P line [] here all = All-cons P line [] here (All-nil P)
 with_all P line (l ∷ ls) here all =
     cond_both (nat_eq line l) (l ∷ ls) (if nat_lt line l then line ∷ l ∷ ls else l ∷ with_line line ls) (λ (t : List ℕ). All P t) (λ e. all)
-        (λ ne. cond_both (nat_lt line l) (line ∷ l ∷ ls) (l ∷ with_line line ls) (λ (t : List ℕ). All P t) (λ lt. All-cons P line (l ∷ ls) here all)
-            (λ ge. All-cons P l (with_line line ls) (All-head P l ls all) (with_all P line ls here (All-tail P l ls all))))
+    (λ ne. cond_both (nat_lt line l) (line ∷ l ∷ ls) (l ∷ with_line line ls) (λ (t : List ℕ). All P t) (λ lt. All-cons P line (l ∷ ls) here all)
+    (λ ge. All-cons P l (with_line line ls) (All-head P l ls all) (with_all P line ls here (All-tail P l ls all))))
 
 lines_all : (P : ℕ → Type 0) (lines : List ℕ) (pairs : List (ℕ × ℕ)) → All P lines → All (λ (p : ℕ × ℕ). P (line_of p.0)) pairs
     → All P (fold (λ (ls : List ℕ) (p : ℕ × ℕ). with_line (line_of p.0) ls) lines pairs)
@@ -75,8 +75,8 @@ lines_all P lines (p ∷ ps) all each =
 pub phase_has : (count : ℕ) (pairs : List (ℕ × ℕ)) → All (λ (p : ℕ × ℕ). IsAddress count p.0) pairs → All (HasAddress count) (phase pairs)
 phase_has count pairs each =
     All-append (HasAddress count) (stores_of pairs) (flushes_at (lines_of pairs) ++ Fence ∷ []) (All-map (HasAddress count) (λ (p : ℕ × ℕ). Store p.0 p.1) pairs each)
-        (All-append (HasAddress count) (flushes_at (lines_of pairs)) (Fence ∷ []) (All-map (HasAddress count) (λ (line : ℕ). Flush line) (lines_of pairs) lines)
-            (All-cons (HasAddress count) Fence [] tt (All-nil (HasAddress count))))
+    (All-append (HasAddress count) (flushes_at (lines_of pairs)) (Fence ∷ []) (All-map (HasAddress count) (λ (line : ℕ). Flush line) (lines_of pairs) lines)
+    (All-cons (HasAddress count) Fence [] tt (All-nil (HasAddress count))))
   where
     lines : All (IsAddress count) (lines_of pairs)
     lines = lines_all (IsAddress count) [] pairs (All-nil (IsAddress count)) (All-weaker (λ (p : ℕ × ℕ). IsAddress count p.0) (λ (p : ℕ × ℕ). IsAddress count (line_of p.0)) (λ p at. line_has count p.0 at) pairs each)
@@ -95,7 +95,7 @@ words_have count i [] size room = All-nil (λ (p : ℕ × ℕ). IsAddress count 
 words_have count i (p ∷ ps) size room =
     let here = pair_inside count i size (omega arith) in
     All-cons (λ (q : ℕ × ℕ). IsAddress count q.0) (pair_address i, p.0) ((pair_value i, p.1) ∷ journal_words (i + 1) ps) here.0
-        (All-cons (λ (q : ℕ × ℕ). IsAddress count q.0) (pair_value i, p.1) (journal_words (i + 1) ps) here.1 (words_have count (i + 1) ps size (omega arith)))
+    (All-cons (λ (q : ℕ × ℕ). IsAddress count q.0) (pair_value i, p.1) (journal_words (i + 1) ps) here.1 (words_have count (i + 1) ps size (omega arith)))
 
 count_has : (count n : ℕ) → HasPages count → All (λ (p : ℕ × ℕ). IsAddress count p.0) (count_pair n)
 count_has count n size = All-cons (λ (p : ℕ × ℕ). IsAddress count p.0) (committed_word, n) [] (count_inside count size) (All-nil (λ (p : ℕ × ℕ). IsAddress count p.0))
@@ -107,4 +107,4 @@ pub journal_has : (count : ℕ) (pairs : List (ℕ × ℕ)) → HasPages count �
     → All (HasAddress count) (journal_events pairs)
 journal_has count pairs size room each =
     All-append (HasAddress count) (phase (journal_words 0 pairs)) (phase (count_pair (length pairs)) ++ finish_events pairs) (phase_has count (journal_words 0 pairs) (words_have count 0 pairs size (omega arith)))
-        (All-append (HasAddress count) (phase (count_pair (length pairs))) (finish_events pairs) (phase_has count (count_pair (length pairs)) (count_has count (length pairs) size)) (finish_has count pairs size each))
+    (All-append (HasAddress count) (phase (count_pair (length pairs))) (finish_events pairs) (phase_has count (count_pair (length pairs)) (count_has count (length pairs) size)) (finish_has count pairs size each))

@@ -70,7 +70,7 @@ finish_is words pairs list = subst (IsFinish pairs words) (sym (fold-append made
     others : (addr : ℕ) → IsHome (length words) addr → IsUnnamed pairs addr → Shortened (word_at words addr) (word_at (made_all (phase (count_pair 0)) first) addr)
     others addr home none =
         shortened_then (word_at words addr) (word_at first addr) (word_at (made_all (phase (count_pair 0)) first) addr)
-            (kept_by (phase pairs) words addr home.inside.inside (unnamed_spared (length words) addr pairs list.homes home none)) (last addr home)
+        (kept_by (phase pairs) words addr home.inside.inside (unnamed_spared (length words) addr pairs list.homes home none)) (last addr home)
 
     value : (addr : ℕ) → IsHome (length words) addr → IsUnnamed pairs addr ⊎ IsNamed pairs addr
         → (word_at (made_all (phase (count_pair 0)) first) addr).present ≡ laid_over pairs addr (word_at words addr).present
@@ -96,8 +96,8 @@ finished words size readable = record {
   values = finish.values;
   view = λ addr home. idle_read (made_all (redo_events words) words) addr finish.idle.present ∙ finish.values addr home;
   others = λ addr home none.
-    let short = finish.others addr home none in
-    record { present = short.present; list = within_shortened (word_at words addr) (word_at (made_all (redo_events words) words) addr) short };
+      let short = finish.others addr home none in
+      record { present = short.present; list = within_shortened (word_at words addr) (word_at (made_all (redo_events words) words) addr) short };
 }
   where
     finish : IsFinish (committed words) words (made_all (redo_events words) words)
@@ -112,11 +112,11 @@ pub begun_is : (words : List Word) (pairs : List (ℕ × ℕ)) → length pairs 
 begun_is words pairs room = record {
   len = length_run (phase (count_pair (length pairs))) first ∙ len;
   homes = λ addr home.
-    let inside = home.inside.inside in
-    let size = len in
-    shortened_then (word_at words addr) (word_at first addr) (word_at (made_all (phase (count_pair (length pairs))) first) addr)
-        (kept_by (phase (journal_words 0 pairs)) words addr home.inside.inside (home_from_words (length words) addr pairs room home))
-        (kept_by (phase (count_pair (length pairs))) first addr (omega (arith, inside, size)) (home_from_count (length words) addr (length pairs) home));
+      let inside = home.inside.inside in
+      let size = len in
+      shortened_then (word_at words addr) (word_at first addr) (word_at (made_all (phase (count_pair (length pairs))) first) addr)
+      (kept_by (phase (journal_words 0 pairs)) words addr home.inside.inside (home_from_words (length words) addr pairs room home))
+      (kept_by (phase (count_pair (length pairs))) first addr (omega (arith, inside, size)) (home_from_count (length words) addr (length pairs) home));
 }
   where
     first : List Word
@@ -136,16 +136,16 @@ ready_list words pairs ready = record { size = ready.size; room = ready.room; ho
 pub applied : ApplyLaw
 applied words pairs ready =
     subst (IsApplied pairs words)
-        (sym (fold-append made words (phase (journal_words 0 pairs)) (phase (count_pair (length pairs)) ++ finish_events pairs) ∙ fold-append made first (phase (count_pair (length pairs))) (finish_events pairs)))
-        (record {
-          len = finish.len ∙ begun.len;
-          done = own_values pairs new words ready finish.done;
-          idle = finish.idle;
-          others = λ addr home none.
-            let short = shortened_then (word_at words addr) (word_at second addr) (word_at new addr) (begun.homes addr home)
-                (finish.others addr (home_over (length words) (length second) addr begun.len home) none) in
-            record { present = short.present; list = within_shortened (word_at words addr) (word_at new addr) short };
-        })
+    (sym (fold-append made words (phase (journal_words 0 pairs)) (phase (count_pair (length pairs)) ++ finish_events pairs) ∙ fold-append made first (phase (count_pair (length pairs))) (finish_events pairs)))
+    (record {
+      len = finish.len ∙ begun.len;
+      done = own_values pairs new words ready finish.done;
+      idle = finish.idle;
+      others = λ addr home none.
+          let short = shortened_then (word_at words addr) (word_at second addr) (word_at new addr) (begun.homes addr home)
+          (finish.others addr (home_over (length words) (length second) addr begun.len home) none) in
+          record { present = short.present; list = within_shortened (word_at words addr) (word_at new addr) short };
+    })
   where
     first : List Word
     first = made_all (phase (journal_words 0 pairs)) words

@@ -35,16 +35,16 @@ with_own : (t : ℕ → Bool) (line : ℕ) (ls : List ℕ) → t line ≡ true �
 with_own t line [] own = or_left (t line) false own
 with_own t line (l ∷ ls) own =
     cond_both (nat_eq line l) (l ∷ ls) (if nat_lt line l then line ∷ l ∷ ls else l ∷ with_line line ls) (λ (lines : List ℕ). list_any t lines ≡ true)
-        (λ e. or_left (t l) (list_any t ls) (subst (λ (n : ℕ). t n ≡ true) (eqb-true line l e) own))
-        (λ ne. cond_both (nat_lt line l) (line ∷ l ∷ ls) (l ∷ with_line line ls) (λ (lines : List ℕ). list_any t lines ≡ true)
-            (λ lt. or_left (t line) (list_any t (l ∷ ls)) own) (λ ge. or_right (t l) (list_any t (with_line line ls)) (with_own t line ls own)))
+    (λ e. or_left (t l) (list_any t ls) (subst (λ (n : ℕ). t n ≡ true) (eqb-true line l e) own))
+    (λ ne. cond_both (nat_lt line l) (line ∷ l ∷ ls) (l ∷ with_line line ls) (λ (lines : List ℕ). list_any t lines ≡ true)
+    (λ lt. or_left (t line) (list_any t (l ∷ ls)) own) (λ ge. or_right (t l) (list_any t (with_line line ls)) (with_own t line ls own)))
 
 with_kept : (t : ℕ → Bool) (line : ℕ) (ls : List ℕ) → list_any t ls ≡ true → list_any t (with_line line ls) ≡ true
 with_kept t line [] has = absurd (false≢true has)
 with_kept t line (l ∷ ls) has =
     cond_both (nat_eq line l) (l ∷ ls) (if nat_lt line l then line ∷ l ∷ ls else l ∷ with_line line ls) (λ (lines : List ℕ). list_any t lines ≡ true) (λ e. has)
-        (λ ne. cond_both (nat_lt line l) (line ∷ l ∷ ls) (l ∷ with_line line ls) (λ (lines : List ℕ). list_any t lines ≡ true)
-            (λ lt. or_right (t line) (list_any t (l ∷ ls)) has) (λ ge. by (or_cases (t l) (list_any t ls) has) (with_kept t line ls)))
+    (λ ne. cond_both (nat_lt line l) (line ∷ l ∷ ls) (l ∷ with_line line ls) (λ (lines : List ℕ). list_any t lines ≡ true)
+    (λ lt. or_right (t line) (list_any t (l ∷ ls)) has) (λ ge. by (or_cases (t l) (list_any t ls) has) (with_kept t line ls)))
   where
     by : (t l ≡ true) ⊎ (list_any t ls ≡ true) → (list_any t ls ≡ true → list_any t (with_line line ls) ≡ true) → list_any t (l ∷ with_line line ls) ≡ true
     by (inl own) rest = or_left (t l) (list_any t (with_line line ls)) own

@@ -110,13 +110,13 @@ pub words_in : (count i : ℕ) (pairs : List (ℕ × ℕ)) → i + length pairs 
 words_in count i [] room = All-nil (λ (p : ℕ × ℕ). IsInJournal count p.0)
 words_in count i (p ∷ ps) room =
     All-cons (λ (q : ℕ × ℕ). IsInJournal count q.0) (pair_address i, p.0) ((pair_value i, p.1) ∷ journal_words (i + 1) ps) (record { first = omega arith; last = omega arith })
-        (All-cons (λ (q : ℕ × ℕ). IsInJournal count q.0) (pair_value i, p.1) (journal_words (i + 1) ps) (record { first = omega arith; last = omega arith }) (words_in count (i + 1) ps (omega arith)))
+    (All-cons (λ (q : ℕ × ℕ). IsInJournal count q.0) (pair_value i, p.1) (journal_words (i + 1) ps) (record { first = omega arith; last = omega arith }) (words_in count (i + 1) ps (omega arith)))
 
 pub words_behind : (i : ℕ) (pairs : List (ℕ × ℕ)) → All (λ (p : ℕ × ℕ). 4160 ≤ p.0) (journal_words i pairs)
 words_behind i [] = All-nil (λ (p : ℕ × ℕ). 4160 ≤ p.0)
 words_behind i (p ∷ ps) =
     All-cons (λ (q : ℕ × ℕ). 4160 ≤ q.0) (pair_address i, p.0) ((pair_value i, p.1) ∷ journal_words (i + 1) ps) (omega arith)
-        (All-cons (λ (q : ℕ × ℕ). 4160 ≤ q.0) (pair_value i, p.1) (journal_words (i + 1) ps) (omega arith) (words_behind (i + 1) ps))
+    (All-cons (λ (q : ℕ × ℕ). 4160 ≤ q.0) (pair_value i, p.1) (journal_words (i + 1) ps) (omega arith) (words_behind (i + 1) ps))
 
 -- which words each phase spares
 pub home_from_words : (count addr : ℕ) (pairs : List (ℕ × ℕ)) → length pairs ≤ pair_capacity (count / 512) → IsHome count addr → All (Spares addr) (phase (journal_words 0 pairs))
@@ -176,7 +176,7 @@ count_either words n (suc k) value old lt durable there = by (Contains-push_case
     short : Shortened (stored n w) left
     short =
         subst (λ (x : Word). Shortened (stored n w) x) (sym (run_at (take (suc k) (phase (count_pair n))) words committed_word lt))
-            (run_spared committed_word rest (stored n w) (All-take (Spares committed_word) k (Flush 4096 ∷ Fence ∷ []) (rest_spares committed_word (4096 ∷ []))))
+        (run_spared committed_word rest (stored n w) (All-take (Spares committed_word) k (Flush 4096 ∷ Fence ∷ []) (rest_spares committed_word (4096 ∷ []))))
 
     by : Contains (w.older ++ w.present ∷ []) value ⊎ (n ≡ value) → (value ≡ old) ⊎ (value ≡ n)
     by (inl before) = inl (one_value w.older w.present value durable.older before ∙ durable.present)

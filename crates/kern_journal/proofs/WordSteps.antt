@@ -33,7 +33,7 @@ made_at words addr (Store a value) lt = by (cases_eq (a / 8) (addr / 8))
     by : (a / 8 ≡ addr / 8) ⊎ (a / 8 ≡ addr / 8 → ⊥) → word_at (made words (Store a value)) addr ≡ come addr (word_at words addr) (Store a value)
     by (inl e) =
         subst (λ (n : ℕ). get_or (set words n (stored value (get_or words n (settled 0)))) (addr / 8) (settled 0) ≡ stored value (word_at words addr)) (sym e)
-            (get_or-set_same words (addr / 8) (stored value (word_at words addr)) (settled 0) lt)
+        (get_or-set_same words (addr / 8) (stored value (word_at words addr)) (settled 0) lt)
         ∙ sym (ap (λ (b : Bool). if b then stored value (word_at words addr) else word_at words addr) (eq-eqb (a / 8) (addr / 8) e))
     by (inr ne) =
         get_or-set_other words (a / 8) (addr / 8) (stored value (word_at words a)) (settled 0) (λ e. ne (sym e))
@@ -161,7 +161,7 @@ marked_by addr (l ∷ ls) w has = by (or_cases (nat_eq (addr / 8 / 8) (l / 64)) 
         → IsMarked (fold (come addr) w (flushes_at (l ∷ ls)))
     by (inl e) rest =
         marked_stays addr ls (come addr w (Flush l))
-            (subst IsMarked (sym (ap (λ (b : Bool). if b then flushed kernel_thread w else w) e)) (mark_put w.marks kernel_thread (length w.older)))
+        (subst IsMarked (sym (ap (λ (b : Bool). if b then flushed kernel_thread w else w) e)) (mark_put w.marks kernel_thread (length w.older)))
     by (inr there) rest = rest there
 
 -- flushes of its line and others, and a fence, make a word durable

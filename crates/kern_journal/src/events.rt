@@ -16,7 +16,11 @@ pub fn journal_events(alloc: Global, pairs: &[(u64, u64)]) -> Result<Vec<Inner>,
 {
     let mut events = Vec::new(alloc);
     push_phase(alloc, &mut events, &journal_words(alloc, pairs)?)?;
-    push_phase(alloc, &mut events, &[(committed_word(), pairs.len() as u64)])?;
+    push_phase(
+        alloc,
+        &mut events,
+        &[(committed_word(), pairs.len() as u64)],
+    )?;
     push_finish(alloc, &mut events, pairs)?;
     Ok(events)
 }

@@ -10,5 +10,5 @@ of_image-requires c = has_pages_new _ c.args.pages (c.new.ensures.words ∙ c.in
 pub returns-clause-len : goal.returns-clause-len
 returns-clause-len c =
     IfOk-weaker c.of_image.result (λ (w : List Word). length w ≡ length c.new.result) (λ (w : List Word). length w ≡ 512 * c.args.pages)
-        (λ w len. len ∙ ap (λ (l : List ℕ). length l) (c.new.ensures.words ∙ c.in_ok-words.ensures) ∙ (size_new c.args.pages c.requires.least c.requires.most).whole)
-        c.of_image.ensures.len
+    (λ w len. len ∙ ap (λ (l : List ℕ). length l) (c.new.ensures.words ∙ c.in_ok-words.ensures) ∙ (size_new c.args.pages c.requires.least c.requires.most).whole)
+    c.of_image.ensures.len

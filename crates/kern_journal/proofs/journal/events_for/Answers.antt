@@ -13,5 +13,5 @@ returns-clause-inside c =
     let at = c.capacity.ensures.capacity in
     let room : length c.args.pairs.now ≤ pair_capacity (count / 512) = omega (arith, at) in
     IfOk-weaker c.map_err.result (λ events. events.items ≡ journal_events c.args.pairs.now) (λ events. All (HasAddress count) events.items)
-        (λ events is. All-same (HasAddress count) events.items (journal_events c.args.pairs.now) is (journal_has count c.args.pairs.now c.capacity.ensures.size room c.requires))
-        (search rules)
+    (λ events is. All-same (HasAddress count) events.items (journal_events c.args.pairs.now) is (journal_has count c.args.pairs.now c.capacity.ensures.size room c.requires))
+    (search rules)
