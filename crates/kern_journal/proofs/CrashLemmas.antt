@@ -13,13 +13,13 @@ use Rattle.pm_words.specs.Crash.{MayLeave}
 use Rattle.kern_journal.specs.declared.inner.Inner.{Inner}
 use Rattle.kern_journal.specs.declared.inner.Inner.TheVariants.{Fence}
 use Rattle.kern_journal.specs.Inner.{made, made_all, phase}
-use Rattle.kern_journal.specs.Journal.{IsHome, IsReadable, committed, committed_count, pair_at, journal_words, count_pair, finish_events, journal_events, redo_events}
+use Rattle.kern_journal.specs.Journal.{IsHome, IsReadable, committed, committed_count, pair_at, journal_words, count_pair, finish_events, finish_any, journal_events, redo_events, laid_over}
 use Rattle.kern_journal.specs.Law.{IsDurable, IsUnnamed, AreDone, IsReady, IsSettled, MayCome, IsAllOrNone, IsRedone, CrashLaw, CutLaw}
 use Rattle.kern_journal.proofs.EventLemmas.{count_inside, words_have}
 use Rattle.kern_journal.proofs.WordSteps.{length_run, Spares, Shortened, shortened_then, still_durable, Within, within_shortened}
 use Rattle.kern_journal.proofs.LaidLemmas.{laid_own, words_apart}
 use Rattle.kern_journal.proofs.PhaseLemmas.{take_past, phase_spares, kept_by, durable_kept, all_done, words_behind, home_from_words, count_from_words, home_from_count, words_from_count, count_done, count_either}
-use Rattle.kern_journal.proofs.FinishLemmas.{IsList, list_over, home_over, IsFinish, finish_is, committed_list, IsBegun, begun_is, ready_list, own_values}
+use Rattle.kern_journal.proofs.FinishLemmas.{IsList, list_over, home_over, IsFinish, finish_is, nothing_is, committed_list, IsBegun, begun_is, ready_list, own_values}
 use Rattle.kern_journal.proofs.CutLemmas.{within_crash, crashed, durable_crashed, IsCommitted, IsStored, IsLeft, committed_is, none_committed, cut_committed}
 
 -- a crash inside of a `redo` with nothing to finish
@@ -29,56 +29,22 @@ record IsIdleCut (after mid : List Word) : Type 0 where
   kept : (addr : ℕ) → IsHome (length after) addr → Within (word_at after addr) (word_at mid addr)
   durable : (addr value : ℕ) → IsHome (length after) addr → IsDurable after addr value → IsDurable mid addr value
 
-idle_count : (after mid : List Word) (k : ℕ) → committed_word / 8 < length after → IsDurable after committed_word 0 → MayLeave (made_all (take k (finish_events [])) after) mid → IsDurable mid committed_word 0
-idle_count after mid zero inside count leave = durable_crashed after mid committed_word 0 leave inside count
-idle_count after mid (suc k) inside count leave =
-    record { present = either (count_either fenced 0 k (word_at mid committed_word).present 0 inside_fenced durable (leave.value (committed_word / 8) inside_late)); older = (crashed late mid committed_word leave inside_late).older }
-  where
-    fenced : List Word
-    fenced = made_all (Fence ∷ []) after
-
-    late : List Word
-    late = made_all (take k (phase (count_pair 0))) fenced
-
-    inside_fenced : committed_word / 8 < length fenced
-    inside_fenced = let size = length_run (Fence ∷ []) after in omega (arith, size, inside)
-
-    inside_late : committed_word / 8 < length late
-    inside_late = let size = length_run (take k (phase (count_pair 0))) fenced in let more = inside_fenced in omega (arith, size, more)
-
-    durable : IsDurable fenced committed_word 0
-    durable = durable_kept (Fence ∷ []) after committed_word 0 inside (phase_spares committed_word [] (All-nil (λ (p : ℕ × ℕ). p.0 / 8 ≢ committed_word / 8))) count
-
-    either : ((word_at mid committed_word).present ≡ 0) ⊎ ((word_at mid committed_word).present ≡ 0) → (word_at mid committed_word).present ≡ 0
-    either (inl e) = e
-    either (inr e) = e
+take_none : (k : ℕ) → take {A = Inner} k [] ≡ []
+take_none zero = refl
+take_none (suc k) = refl
 
 idle_cut : (after mid : List Word) (k : ℕ) → HasPages (length after) → IsDurable after committed_word 0 → MayLeave (made_all (take k (redo_events after)) after) mid → IsIdleCut after mid
 idle_cut after mid k size count leave = record {
-  len = left.len ∙ length_run es after;
-  count = idle_count after mid k (count_inside (length after) size).inside count left;
-  kept = λ addr home value there.
-      within_shortened (word_at after addr) (word_at late addr) (kept_by es after addr home.inside.inside (spares addr home)) value (within_crash late mid addr left (inside_late addr home.inside.inside) value there);
-  durable = λ addr value home durable.
-      durable_crashed late mid addr value left (inside_late addr home.inside.inside) (durable_kept es after addr value home.inside.inside (spares addr home) durable);
+  len = left.len;
+  count = durable_crashed after mid committed_word 0 left (count_inside (length after) size).inside count;
+  kept = λ addr home. within_crash after mid addr left home.inside.inside;
+  durable = λ addr value home durable. durable_crashed after mid addr value left home.inside.inside durable;
 }
   where
-    es : List Inner
-    es = take k (finish_events [])
-
-    late : List Word
-    late = made_all es after
-
-    left : MayLeave late mid
-    left = subst (λ (ps : List (ℕ × ℕ)). MayLeave (made_all (take k (finish_events ps)) after) mid) (none_committed after count) leave
-
-    inside_late : (addr : ℕ) → addr / 8 < length after → addr / 8 < length late
-    inside_late addr lt = let more = length_run es after in omega (arith, more, lt)
-
-    spares : (addr : ℕ) → IsHome (length after) addr → All (Spares addr) es
-    spares addr home =
-        All-take (Spares addr) k (finish_events [])
-        (All-append (Spares addr) (phase []) (phase (count_pair 0)) (phase_spares addr [] (All-nil (λ (p : ℕ × ℕ). p.0 / 8 ≢ addr / 8))) (home_from_count (length after) addr 0 home))
+    left : MayLeave after mid
+    left =
+        subst (λ (es : List Inner). MayLeave (made_all es after) mid) (take_none k)
+        (subst (λ (ps : List (ℕ × ℕ)). MayLeave (made_all (take k (finish_any ps)) after) mid) (none_committed after count) leave)
 
 -- crashes inside of one `redo` after another
 size_over : (one two : ℕ) → two ≡ one → HasPages one → HasPages two
@@ -105,13 +71,21 @@ cuts_left (k ∷ ks) old after final size state (mid, leave, rest) =
       homes = λ addr home value there. state.homes addr home value (cut.kept addr (home_over (length old) (length after) addr state.len home) value there);
     }) rest
 
+-- no pairs that are committed are stored
+stored_none : (old after : List Word) → IsCommitted [] old after → IsStored [] old after
+stored_none old after state = record { len = state.len; count = state.count; done = All-nil (λ (p : ℕ × ℕ). IsDurable after p.0 (laid_over [] p.0 p.1)); others = state.others }
+
 cuts_committed : (cuts : List ℕ) (pairs : List (ℕ × ℕ)) (old after final : List Word) → IsList (length old) pairs → IsCommitted pairs old after → MayCome cuts after final
     → IsCommitted pairs old final ⊎ IsStored pairs old final
 cuts_committed [] pairs old after final list state same = inl (subst (IsCommitted pairs old) (sym same) state)
-cuts_committed (k ∷ ks) pairs old after final list state (mid, leave, rest) =
-    by (cut_committed pairs old after mid k list state (subst (λ (ps : List (ℕ × ℕ)). MayLeave (made_all (take k (finish_events ps)) after) mid) (committed_is pairs old after state) leave))
+cuts_committed (k ∷ ks) [] old after final list state come = inr (cuts_stored (k ∷ ks) [] old after final list (stored_none old after state) come)
+cuts_committed (k ∷ ks) (p ∷ ps) old after final list state (mid, leave, rest) =
+    by (cut_committed pairs old after mid k list state (subst (λ (qs : List (ℕ × ℕ)). MayLeave (made_all (take k (finish_any qs)) after) mid) (committed_is pairs old after state) leave))
     (λ next. cuts_committed ks pairs old mid final list next rest)
   where
+    pairs : List (ℕ × ℕ)
+    pairs = p ∷ ps
+
     by : IsCommitted pairs old mid ⊎ IsStored pairs old mid → (IsCommitted pairs old mid → IsCommitted pairs old final ⊎ IsStored pairs old final) → IsCommitted pairs old final ⊎ IsStored pairs old final
     by (inl next) go = go next
     by (inr next) go = inr (cuts_stored ks pairs old mid final list next rest)
@@ -130,14 +104,14 @@ idle_readable after count =
     record { room = omega (arith, none); homes = All-same (λ (p : ℕ × ℕ). IsHome (length after) p.0) (committed after) [] (none_committed after count) (All-nil (λ (p : ℕ × ℕ). IsHome (length after) p.0)) }
 
 -- what a whole `redo` leaves
-redone_committed : (pairs : List (ℕ × ℕ)) (old after : List Word) → IsList (length old) pairs → IsCommitted pairs old after → IsFinish pairs after (made_all (redo_events after) after)
-redone_committed pairs old after list state =
-    subst (λ (ps : List (ℕ × ℕ)). IsFinish pairs after (made_all (finish_events ps) after)) (sym (committed_is pairs old after state)) (finish_is after pairs (list_over (length old) (length after) pairs state.len list))
+redone_idle : (after : List Word) → IsDurable after committed_word 0 → IsFinish [] after (made_all (redo_events after) after)
+redone_idle after count =
+    subst (λ (ps : List (ℕ × ℕ)). IsFinish [] after (made_all (finish_any ps) after)) (sym (none_committed after count)) (nothing_is after count)
 
-redone_idle : (after : List Word) → HasPages (length after) → IsDurable after committed_word 0 → IsFinish [] after (made_all (redo_events after) after)
-redone_idle after size count =
-    subst (λ (ps : List (ℕ × ℕ)). IsFinish [] after (made_all (finish_events ps) after)) (sym (none_committed after count))
-    (finish_is after [] (record { size = size; room = omega arith; homes = All-nil (λ (p : ℕ × ℕ). IsHome (length after) p.0) }))
+redone_committed : (pairs : List (ℕ × ℕ)) (old after : List Word) → IsList (length old) pairs → IsCommitted pairs old after → IsFinish pairs after (made_all (redo_events after) after)
+redone_committed [] old after list state = redone_idle after state.count
+redone_committed (p ∷ ps) old after list state =
+    subst (λ (qs : List (ℕ × ℕ)). IsFinish (p ∷ ps) after (made_all (finish_any qs) after)) (sym (committed_is (p ∷ ps) old after state)) (finish_is after (p ∷ ps) (list_over (length old) (length after) (p ∷ ps) state.len list))
 
 own_present : (old after new : Word) → Within old after → Shortened after new → Contains (crash_list old) new.present
 own_present old after new within short = within new.present (within_shortened after new short new.present (Contains-push new.older new.present))
@@ -175,7 +149,7 @@ ended_stored pairs old after list state = record {
     new = made_all (redo_events after) after
 
     finish : IsFinish [] after new
-    finish = redone_idle after (size_over (length old) (length after) state.len list.size) state.count
+    finish = redone_idle after state.count
 
     same : (addr : ℕ) → IsHome (length old) addr → Shortened (word_at after addr) (word_at new addr)
     same addr home = finish.others addr (home_over (length old) (length after) addr state.len home) (All-nil (λ (p : ℕ × ℕ). p.0 ≢ addr))
@@ -361,7 +335,7 @@ crash_anywhere words pairs k cuts left after ready leave come = by (first_crash 
     )
       where
         finish : IsFinish [] after new
-        finish = redone_idle after (size_over (length words) (length after) state.len ready.size) state.count
+        finish = redone_idle after state.count
 
         own : (addr : ℕ) → IsHome (length words) addr → Contains (crash_list (word_at words addr)) (word_at new addr).present
         own addr home =

@@ -13,7 +13,7 @@ use Rattle.pm_words.specs.Memory.{IsAddress, HasPages}
 use Rattle.kern_journal.specs.declared.inner.Inner.{Inner}
 use Rattle.kern_journal.specs.declared.inner.Inner.TheVariants.{Store, Flush, Fence}
 use Rattle.kern_journal.specs.Inner.{HasAddress, line_of, with_line, lines_of, stores_of, flushes_at, phase}
-use Rattle.kern_journal.specs.Journal.{laid_over, journal_words, count_pair, finish_events, journal_events}
+use Rattle.kern_journal.specs.Journal.{laid_over, journal_words, count_pair, finish_events, finish_any, journal_events}
 
 -- the journal's words with a pair more
 words_push : (i : ℕ) (ps : List (ℕ × ℕ)) (p : ℕ × ℕ)
@@ -102,6 +102,10 @@ count_has count n size = All-cons (λ (p : ℕ × ℕ). IsAddress count p.0) (co
 
 pub finish_has : (count : ℕ) (pairs : List (ℕ × ℕ)) → HasPages count → All (λ (p : ℕ × ℕ). IsAddress count p.0) pairs → All (HasAddress count) (finish_events pairs)
 finish_has count pairs size each = All-append (HasAddress count) (phase pairs) (phase (count_pair 0)) (phase_has count pairs each) (phase_has count (count_pair 0) (count_has count 0 size))
+
+pub finish_any_has : (count : ℕ) (pairs : List (ℕ × ℕ)) → HasPages count → All (λ (p : ℕ × ℕ). IsAddress count p.0) pairs → All (HasAddress count) (finish_any pairs)
+finish_any_has count [] size each = All-nil (HasAddress count)
+finish_any_has count (p ∷ pairs) size each = finish_has count (p ∷ pairs) size each
 
 pub journal_has : (count : ℕ) (pairs : List (ℕ × ℕ)) → HasPages count → length pairs ≤ pair_capacity (count / 512) → All (λ (p : ℕ × ℕ). IsAddress count p.0) pairs
     → All (HasAddress count) (journal_events pairs)

@@ -2,7 +2,8 @@
 use Rattle.std.proofs.Common.{◌≡◌, ◌≢◌, ℕ, ◌+◌, ◌-◌, ◌*◌, ◌/◌, ◌%◌, ◌<◌, ◌≤◌, List, [], ◌∷◌, ◌++◌, length, get_or, map, nat_eq, refl, sym, ap, subst, ◌∙◌, inl, inr, ◌⊎◌, arith, All, Contains}
 use Rattle.std.specs.Prelude.{fold}
 use Rattle.std.specs.List.{range_with_len}
-use Rattle.std.proofs.lemmas.List.Elements.{All-weaker}
+use Rattle.std.proofs.lemmas.Bool.{cases_eq}
+use Rattle.std.proofs.lemmas.List.Elements.{All-weaker, All-nil}
 use Rattle.std.proofs.lemmas.List.FromFn.{length-map-range_with_len}
 use Rattle.std.proofs.lemmas.List.Sums.{fold-append}
 use Rattle.zo_layout.specs.Layout.{pair_capacity, committed_word}
@@ -10,10 +11,10 @@ use Rattle.pm_words.specs.Word.{Word}
 use Rattle.pm_words.specs.Memory.{word_at, IsAddress, HasPages}
 use Rattle.kern_journal.specs.declared.inner.Inner.{Inner}
 use Rattle.kern_journal.specs.Inner.{made, made_all, phase}
-use Rattle.kern_journal.specs.Journal.{IsHome, IsReadable, committed, committed_count, pair_at, kernel_word, laid_over, journal_words, count_pair, finish_events, journal_events, redo_events}
+use Rattle.kern_journal.specs.Journal.{IsHome, IsReadable, committed, committed_count, pair_at, kernel_word, laid_over, journal_words, count_pair, finish_events, finish_any, journal_events, redo_events}
 use Rattle.kern_journal.specs.Law.{IsDurable, Keeps, IsUnnamed, AreDone, IsReady, IsApplied, IsFinished, ApplyLaw, ViewLaw, IdleLaw}
 use Rattle.kern_journal.proofs.EventLemmas.{count_inside}
-use Rattle.kern_journal.proofs.WordSteps.{length_run, Shortened, shortened_then, within_shortened}
+use Rattle.kern_journal.proofs.WordSteps.{length_run, Shortened, same_word, shortened_then, within_shortened}
 use Rattle.kern_journal.proofs.LaidLemmas.{IsNamed, named_cases, laid_unnamed, laid_own}
 use Rattle.kern_journal.proofs.PhaseLemmas.{kept_by, phase_done, all_done, done_kept, home_from_words, home_from_count, unnamed_spared, count_done}
 
@@ -88,10 +89,43 @@ committed_list words size readable =
     let most = readable.room in
     record { size = size; room = omega (arith, count, most); homes = readable.homes }
 
-pub finished : ViewLaw
-finished words size readable = record {
+-- finishing nothing leaves everything
+pub nothing_is : (words : List Word) → IsDurable words committed_word 0 → IsFinish [] words words
+nothing_is words durable = record {
+  len = refl;
+  idle = durable;
+  done = All-nil (λ (p : ℕ × ℕ). IsDurable words p.0 (laid_over [] p.0 p.1));
+  values = λ addr home. refl;
+  others = λ addr home none. same_word (word_at words addr);
+}
+
+some_any : (pairs : List (ℕ × ℕ)) → 0 < length pairs → finish_events pairs ≡ finish_any pairs
+some_any [] some = absurd (omega arith)
+some_any (p ∷ pairs) some = refl
+
+finished_none : (words : List Word) → committed_count words ≡ 0 → IsFinished words words
+finished_none words none = record {
+  len = refl;
+  idle = none;
+  durable = durable;
+  done = subst (λ (ps : List (ℕ × ℕ)). AreDone ps words) (sym empty) (All-nil (λ (p : ℕ × ℕ). IsDurable words p.0 (laid_over [] p.0 p.1)));
+  values = λ addr home. sym (idle_read words addr none);
+  view = λ addr home. refl;
+  others = λ addr home unnamed. record { present = refl; list = λ value there. there };
+}
+  where
+    empty : committed words ≡ []
+    empty = ap (λ (n : ℕ). map (pair_at words) (range_with_len 0 n)) none
+
+    durable : (committed_count words ≢ 0) ⊎ ((word_at words committed_word).older ≡ []) → IsDurable words committed_word 0
+    durable (inl some) = absurd (some none)
+    durable (inr older) = record { present = none; older = older }
+
+finished_some : (words : List Word) → HasPages (length words) → IsReadable words → committed_count words ≢ 0 → IsFinished words (made_all (redo_events words) words)
+finished_some words size readable some = record {
   len = finish.len;
-  idle = finish.idle;
+  idle = finish.idle.present;
+  durable = λ either. finish.idle;
   done = finish.done;
   values = finish.values;
   view = λ addr home. idle_read (made_all (redo_events words) words) addr finish.idle.present ∙ finish.values addr home;
@@ -100,8 +134,21 @@ finished words size readable = record {
       record { present = short.present; list = within_shortened (word_at words addr) (word_at (made_all (redo_events words) words) addr) short };
 }
   where
+    count : length (committed words) ≡ committed_count words
+    count = length-map-range_with_len (pair_at words) 0 (committed_count words)
+
     finish : IsFinish (committed words) words (made_all (redo_events words) words)
-    finish = finish_is words (committed words) (committed_list words size readable)
+    finish =
+        subst (λ (es : List Inner). IsFinish (committed words) words (made_all es words)) (some_any (committed words) (let is = count in let ne = some in omega (arith, is, ne)))
+        (finish_is words (committed words) (committed_list words size readable))
+
+pub finished : ViewLaw
+finished words size readable = by (cases_eq (committed_count words) 0)
+  where
+    by : (committed_count words ≡ 0) ⊎ (committed_count words ≢ 0) → IsFinished words (made_all (redo_events words) words)
+    by (inl none) =
+        subst (λ (es : List Inner). IsFinished words (made_all es words)) (sym (ap (λ (n : ℕ). finish_any (map (pair_at words) (range_with_len 0 n))) none)) (finished_none words none)
+    by (inr some) = finished_some words size readable some
 
 -- what the phases of the journal leave outside it, before the pairs are finished
 pub record IsBegun (words new : List Word) : Type 0 where

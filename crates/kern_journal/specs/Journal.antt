@@ -25,6 +25,10 @@ finish_events pairs = phase pairs ++ phase (count_pair 0)
 abbrev pub journal_events : List (ℕ × ℕ) → List Inner
 journal_events pairs = phase (journal_words 0 pairs) ++ (phase (count_pair (length pairs)) ++ finish_events pairs)
 
--- what finishes the pairs that are committed in these words
+-- what finishes the pairs that are committed in these words; nothing, where none is
+abbrev pub finish_any : List (ℕ × ℕ) → List Inner
+finish_any [] = []
+finish_any (p ∷ pairs) = finish_events (p ∷ pairs)
+
 abbrev pub redo_events : List Word → List Inner
-redo_events words = finish_events (committed words)
+redo_events words = finish_any (committed words)

@@ -88,11 +88,12 @@ CutLaw =
     (words : List Word) (cuts : List ℕ) (after : List Word) → HasPages (length words) → IsReadable words → IsSettled words → MayCome cuts words after
     → IsReadable after × IsRedone words after (made_all (redo_events after) after)
 
--- after a whole `redo`: nothing is committed, the committed pairs are durable, the words outside the journal have the values that the kernel read, and the
--- kernel reads what it read
+-- after a whole `redo`: nothing is committed, and durably so where something was or where word 0 of the journal was durable; the committed pairs are
+-- durable, the words outside the journal have the values that the kernel read, and the kernel reads what it read
 pub record IsFinished (old new : List Word) : Type 0 where
   pub len : length new ≡ length old
-  pub idle : IsDurable new committed_word 0
+  pub idle : committed_count new ≡ 0
+  pub durable : (committed_count old ≢ 0) ⊎ ((word_at old committed_word).older ≡ []) → IsDurable new committed_word 0
   pub done : AreDone (committed old) new
   pub values : (addr : ℕ) → IsHome (length old) addr → (word_at new addr).present ≡ kernel_word old addr
   pub view : (addr : ℕ) → IsHome (length old) addr → kernel_word new addr ≡ kernel_word old addr

@@ -25,12 +25,14 @@ pub fn journal_events(alloc: Global, pairs: &[(u64, u64)]) -> Result<Vec<Inner>,
     Ok(events)
 }
 
-/// The steps that finish pairs that are committed.
-pub fn finish_events(alloc: Global, pairs: &[(u64, u64)]) -> Result<Vec<Inner>, AllocError>
-    ensures { IfOk result (λ events. events.items ≡ spec.finish_events pairs.now) }
+/// The steps that finish the pairs that are committed; none where there are none.
+pub fn finish_any(alloc: Global, pairs: &[(u64, u64)]) -> Result<Vec<Inner>, AllocError>
+    ensures { IfOk result (λ events. events.items ≡ spec.finish_any pairs.now) }
 {
     let mut events = Vec::new(alloc);
-    push_finish(alloc, &mut events, pairs)?;
+    if !pairs.is_empty() {
+        push_finish(alloc, &mut events, pairs)?;
+    }
     Ok(events)
 }
 

@@ -7,7 +7,7 @@ ghost use Rattle.tr_types.specs.KernelView.{pages_of};
 ghost use Rattle.kern_journal.specs.Inner.{made_all, IsCut, HasAddress};
 ghost use Rattle.kern_journal.specs.Journal as spec;
 
-use crate::events::{finish_events, journal_events};
+use crate::events::{finish_any, journal_events};
 use crate::inner::{Inner, make_all};
 use pm_words::{NoMemory, Words};
 use std::alloc::Global;
@@ -114,7 +114,8 @@ fn events_for(
 }
 
 /// Finishes the committed pairs: makes each of them durable at its address, and then empties the
-/// journal. An error leaves the words as they are after some number of the inner events.
+/// journal. Where none is committed it does nothing. An error leaves the words as they are after
+/// some number of the inner events.
 pub fn redo(alloc: Global, words: &mut Words) -> Result<(), NoMemory>
     requires { spec.IsReadable words.old }
     ensures ok { OnOk result (words.new ≡ made_all (spec.redo_events words.old) words.old) }
@@ -122,7 +123,7 @@ pub fn redo(alloc: Global, words: &mut Words) -> Result<(), NoMemory>
     ensures len { length words.new ≡ length words.old }
 {
     let pairs = committed(alloc, words)?;
-    let events = finish_events(alloc, &pairs)?;
+    let events = finish_any(alloc, &pairs)?;
     make_all(words, &events)
 }
 
