@@ -117,14 +117,14 @@ cuts_committed (k ∷ ks) pairs old after final list state (mid, leave, rest) =
     by (inr next) go = inr (cuts_stored ks pairs old mid final list next rest)
 
 -- what was left can be finished
-committed_readable : (pairs : List (ℕ × ℕ)) (old after : List Word) → IsList (length old) pairs → IsCommitted pairs old after → IsReadable after
+pub committed_readable : (pairs : List (ℕ × ℕ)) (old after : List Word) → IsList (length old) pairs → IsCommitted pairs old after → IsReadable after
 committed_readable pairs old after list state =
     let here = list_over (length old) (length after) pairs state.len list in
     let count = state.count.present in
     let most = here.room in
     record { room = omega (arith, count, most); homes = All-same (λ (p : ℕ × ℕ). IsHome (length after) p.0) (committed after) pairs (committed_is pairs old after state) here.homes }
 
-idle_readable : (after : List Word) → IsDurable after committed_word 0 → IsReadable after
+pub idle_readable : (after : List Word) → IsDurable after committed_word 0 → IsReadable after
 idle_readable after count =
     let none = count.present in
     record { room = omega (arith, none); homes = All-same (λ (p : ℕ × ℕ). IsHome (length after) p.0) (committed after) [] (none_committed after count) (All-nil (λ (p : ℕ × ℕ). IsHome (length after) p.0)) }
