@@ -34,7 +34,6 @@ idle_new words pages least is = subst (λ (ws : List Word). IsDurable ws committ
 pub readable_new : (words : List Word) (pages : ℕ) → 64 ≤ pages → words ≡ all_durable (new_image pages) → IsReadable words
 readable_new words pages least is = idle_readable words (idle_new words pages least is)
 
-
 none_apart : IsDistinct nat_eq []
 unfolding IsDistinct
 none_apart = tt
@@ -46,7 +45,7 @@ ready_new words is = record {
   room = let h = len in omega (arith, h);
   different = IsDistinct-cons nat_eq 163840 (163904 ∷ []) (refl, tt) (IsDistinct-cons nat_eq 163904 [] tt none_apart);
   homes = All-cons (λ (p : ℕ × ℕ). IsHome (length words) p.0) (163840, 7) ((163904, 9) ∷ []) (home 163840 refl (omega arith) (omega arith))
-    (All-cons (λ (p : ℕ × ℕ). IsHome (length words) p.0) (163904, 9) [] (home 163904 refl (omega arith) (omega arith)) (All-nil (λ (p : ℕ × ℕ). IsHome (length words) p.0)));
+      (All-cons (λ (p : ℕ × ℕ). IsHome (length words) p.0) (163904, 9) [] (home 163904 refl (omega arith) (omega arith)) (All-nil (λ (p : ℕ × ℕ). IsHome (length words) p.0)));
   idle = idle_new words 64 (omega arith) is;
 }
   where
