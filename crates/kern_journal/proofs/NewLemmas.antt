@@ -1,5 +1,5 @@
 -- The journal of a new image: nothing is committed.
-use Rattle.std.proofs.Common.{◌≡◌, ℕ, ◌+◌, ◌*◌, ◌/◌, ◌%◌, ◌<◌, ◌≤◌, Bool, if◌then◌else◌, List, [], ◌∷◌, length, map, get_or, nat_eq, nat_lt, refl, sym, ap, subst, ◌∙◌, arith, All}
+use Rattle.std.proofs.Common.{◌≡◌, ℕ, ◌*◌, ◌%◌, ◌<◌, ◌≤◌, List, [], ◌∷◌, length, get_or, nat_eq, nat_lt, refl, sym, ap, subst, ◌∙◌, arith}
 use Rattle.std.specs.List.{IsDistinct}
 use Rattle.std.proofs.lemmas.Bool.{lt-ltb, cond-true}
 use Rattle.std.proofs.lemmas.List.Elements.{All-nil, All-cons}
@@ -7,9 +7,9 @@ use Rattle.std.proofs.lemmas.List.FromFn.{get_or-map-range_with_len, length-map-
 use Rattle.zo_layout.specs.Layout.{committed_word, owner_table}
 use Rattle.pm_words.specs.Word.{Word, settled}
 use Rattle.std.proofs.lemmas.Map.Keys.{IsDistinct-cons}
-use Rattle.pm_words.specs.Memory.{word_at, all_durable, IsPages, HasPages}
+use Rattle.pm_words.specs.Memory.{all_durable, IsPages, HasPages}
 use Rattle.pm_words.proofs.WordLemmas.{word_at_all_durable, has_pages}
-use Rattle.tr_types.specs.NewImage.{new_image, new_word, word_in_page}
+use Rattle.tr_types.specs.NewImage.{new_image, new_word}
 use Rattle.tr_types.proofs.FreePages.{size_opened}
 use Rattle.kern_journal.specs.Journal.{IsHome, IsReadable}
 use Rattle.kern_journal.specs.Law.{IsDurable, IsReady}

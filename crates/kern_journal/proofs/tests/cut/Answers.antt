@@ -1,4 +1,4 @@
-use Rattle.std.proofs.Common.{◌≡◌, List, [], refl, sym, subst, take}
+use Rattle.std.proofs.Common.{List, [], refl, sym, subst, take}
 use Rattle.pm_words.specs.Word.{Word}
 use Rattle.pm_words.specs.Crash.{MayLeave}
 use Rattle.pm_words.proofs.CrashLemmas.{crash_leaves}
