@@ -1,12 +1,12 @@
 -- Crashes one after another, and a whole `redo` at the end.
-use Rattle.std.proofs.Common.{◌≡◌, ◌≢◌, ℕ, ◌+◌, ◌-◌, ◌*◌, ◌/◌, ◌%◌, ◌<◌, ◌≤◌, zero, suc, List, [], ◌∷◌, ◌++◌, take, length, get_or, map, refl, sym, ap, subst, ◌∙◌, inl, inr, ◌⊎◌, arith, All, Contains}
+use Rattle.std.proofs.Common.{◌≡◌, ◌≢◌, ℕ, ◌+◌, ◌-◌, ◌/◌, ◌<◌, ◌≤◌, zero, suc, List, [], ◌∷◌, ◌++◌, take, length, get_or, map, refl, sym, ap, subst, ◌∙◌, inl, inr, ◌⊎◌, arith, All, Contains}
 use Rattle.std.specs.List.{range_with_len}
 use Rattle.std.proofs.lemmas.Bool.{cases_lt}
 use Rattle.std.proofs.lemmas.List.{take-append-le}
 use Rattle.std.proofs.lemmas.List.Elements.{All-nil, All-cons, All-append, All-take, All-same, Contains-push}
 use Rattle.std.proofs.lemmas.List.FromFn.{length-map-range_with_len}
 use Rattle.std.proofs.lemmas.List.Sums.{fold-append}
-use Rattle.zo_layout.specs.Layout.{pair_address, pair_value, pair_capacity, committed_word}
+use Rattle.zo_layout.specs.Layout.{pair_address, pair_value, committed_word}
 use Rattle.pm_words.specs.Word.{Word, crash_list}
 use Rattle.pm_words.specs.Memory.{word_at, IsAddress, HasPages}
 use Rattle.pm_words.specs.Crash.{MayLeave}
@@ -91,14 +91,14 @@ cuts_committed (k ∷ ks) (p ∷ ps) old after final list state (mid, leave, res
     by (inr next) go = inr (cuts_stored ks pairs old mid final list next rest)
 
 -- what was left can be finished
-committed_readable : (pairs : List (ℕ × ℕ)) (old after : List Word) → IsList (length old) pairs → IsCommitted pairs old after → IsReadable after
+pub committed_readable : (pairs : List (ℕ × ℕ)) (old after : List Word) → IsList (length old) pairs → IsCommitted pairs old after → IsReadable after
 committed_readable pairs old after list state =
     let here = list_over (length old) (length after) pairs state.len list in
     let count = state.count.present in
     let most = here.room in
     record { room = omega (arith, count, most); homes = All-same (λ (p : ℕ × ℕ). IsHome (length after) p.0) (committed after) pairs (committed_is pairs old after state) here.homes }
 
-idle_readable : (after : List Word) → IsDurable after committed_word 0 → IsReadable after
+pub idle_readable : (after : List Word) → IsDurable after committed_word 0 → IsReadable after
 idle_readable after count =
     let none = count.present in
     record { room = omega (arith, none); homes = All-same (λ (p : ℕ × ℕ). IsHome (length after) p.0) (committed after) [] (none_committed after count) (All-nil (λ (p : ℕ × ℕ). IsHome (length after) p.0)) }

@@ -16,3 +16,5 @@ mod FinishLemmas
 mod CutLemmas
 -- crashes one after another
 mod CrashLemmas
+-- the journal of a new image
+mod NewLemmas

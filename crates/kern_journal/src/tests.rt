@@ -1,12 +1,13 @@
 // Lists of words that are stored all or not at all.
-ghost use Rattle.std.specs.Prelude.{◌≡◌, length, OnOk};
+ghost use Rattle.std.specs.Prelude.{◌≡◌, [], ◌∷◌, length, All, IfOk, OnOk};
+ghost use Rattle.pm_words.specs.Memory.{IsAddress};
 ghost use Rattle.kern_journal.specs.Journal.{IsReadable};
 ghost use Rattle.kern_journal.specs.Law.{IsReady};
 
 use crate::{
     JournalFault, apply, apply_first, capacity, committed_count, kernel_word, new_image, redo,
 };
-use pm_words::{Choice, Words};
+use pm_words::{Choice, NoMemory, Words};
 use std::alloc::Global;
 use std::test::Fail;
 
@@ -19,10 +20,10 @@ const PAIRS: [(u64, u64); 2] = [(FIRST, 7), (SECOND, 9)];
 
 #[test]
 fn words_of_the_new_image_of_64_pages(rt: HostRuntime) -> Result<(), Fail> {
-    let words = new_image(rt.alloc(), 64)?;
+    let image = small(rt.alloc())?.image()?;
     // each address with its word, the owner table left out
     for (addr, word) in [
-        (0, 6436300633531568724u64),
+        (0usize, 6436300633531568724u64),
         (8, 1),
         (16, 64),
         (20480, 1),
@@ -33,14 +34,14 @@ fn words_of_the_new_image_of_64_pages(rt: HostRuntime) -> Result<(), Fail> {
         (20552, 47),
         (153584, 1),
     ] {
-        assert_eq!(rt; words.load(addr), word, "at {addr}");
+        assert_eq!(rt; image.words().get(addr / 8), Some(&word), "at {addr}");
     }
     Ok(())
 }
 
 #[test]
 fn owners_of_the_new_image_of_64_pages(rt: HostRuntime) -> Result<(), Fail> {
-    let words = new_image(rt.alloc(), 64)?;
+    let words = small(rt.alloc())?;
     for page in 0..38u64 {
         assert_eq!(rt; words.load(16384 + 8 * page), 65535, "of page {page}");
     }
@@ -51,7 +52,8 @@ fn owners_of_the_new_image_of_64_pages(rt: HostRuntime) -> Result<(), Fail> {
 
 #[test]
 fn all_other_words_of_the_new_image_are_zero(rt: HostRuntime) -> Result<(), Fail> {
-    let image = new_image(rt.alloc(), 64)?.image()?;
+    let words = small(rt.alloc())?;
+    let image = words.image()?;
     assert_eq!(rt; image.words().len(), 32768);
     assert_eq!(rt; image.words().iter().filter(|&&word| word != 0).count(), 50);
     Ok(())
@@ -60,7 +62,7 @@ fn all_other_words_of_the_new_image_are_zero(rt: HostRuntime) -> Result<(), Fail
 #[test]
 fn a_pair_is_applied(rt: HostRuntime) -> Result<(), Fail> {
     let alloc = rt.alloc();
-    let mut words = new_image(alloc, 64)?;
+    let mut words = small(alloc)?;
     assert_eq!(rt; capacity(&words), 764);
     assert_eq!(rt; apply(alloc, &mut words, &PAIRS[..1]), Ok(()));
     assert_eq!(rt; (words.load(FIRST), words.pending(FIRST)?.len()), (7, 1));
@@ -69,19 +71,10 @@ fn a_pair_is_applied(rt: HostRuntime) -> Result<(), Fail> {
 }
 
 #[test]
-fn no_event_is_made(rt: HostRuntime) -> Result<(), Fail> {
-    let alloc = rt.alloc();
-    let mut words = new_image(alloc, 64)?;
-    assert_eq!(rt; apply_first(alloc, &mut words, &PAIRS, 0), Ok(()));
-    assert_eq!(rt; (words.load(FIRST), words.load(4160)), (0, 0));
-    Ok(())
-}
-
-#[test]
 fn too_many_pairs(rt: HostRuntime) -> Result<(), Fail> {
     let alloc = rt.alloc();
-    let mut words = new_image(alloc, 64)?;
-    let pairs = vec![in alloc; (FIRST, 7); 765]?;
+    let mut words = small(alloc)?;
+    let pairs = many(alloc, 765)?;
     assert_eq!(rt;
         apply(alloc, &mut words, &pairs),
         Err(JournalFault::TooMany)
@@ -92,8 +85,9 @@ fn too_many_pairs(rt: HostRuntime) -> Result<(), Fail> {
 
 #[test]
 fn nothing_to_redo(rt: HostRuntime) -> Result<(), Fail> {
-    let mut words = new_image(rt.alloc(), 64)?;
-    redo(rt.alloc(), &mut words)?;
+    let alloc = rt.alloc();
+    let mut words = small(alloc)?;
+    redo(alloc, &mut words)?;
     assert_eq!(rt; committed_count(&words), 0);
     Ok(())
 }
@@ -102,8 +96,8 @@ fn nothing_to_redo(rt: HostRuntime) -> Result<(), Fail> {
 #[test]
 fn committed_pairs_are_read_before_they_are_stored(rt: HostRuntime) -> Result<(), Fail> {
     let alloc = rt.alloc();
-    let mut words = new_image(alloc, 64)?;
-    assert_eq!(rt; cut(alloc, &mut words, &PAIRS, 9, Choice::None), Ok(()));
+    let mut words = small(alloc)?;
+    cut(alloc, &mut words, &PAIRS, 9, Choice::None)?;
     assert_eq!(rt; (committed_count(&words), words.load(FIRST)), (2, 0));
     assert_eq!(rt;
         (kernel_word(&words, FIRST), kernel_word(&words, SECOND)),
@@ -112,8 +106,8 @@ fn committed_pairs_are_read_before_they_are_stored(rt: HostRuntime) -> Result<()
     Ok(())
 }
 
-// Of 17 events: 4 stores, a flush and a fence in the journal; from the 7th on the pairs' number is
-// present, from the 9th on it is durable.
+// Of 17 events the first 6 write the pairs, and none is made at 0; from the 7th on the pairs' number
+// is present, and from the 9th on it is durable.
 #[test]
 fn a_crash_leaves_all_or_none(rt: HostRuntime) -> Result<(), Fail> {
     for k in 0..18 {
@@ -133,12 +127,32 @@ fn a_crash_leaves_all_or_none(rt: HostRuntime) -> Result<(), Fail> {
     Ok(())
 }
 
+// So many pairs.
+fn many(alloc: Global, count: usize) -> Result<Vec<(u64, u64)>, NoMemory>
+    ensures { IfOk result (λ pairs. All (λ p. IsAddress 32768 p.0) pairs.items) }
+{
+    let mut pairs = Vec::new(alloc);
+    for _ in 0..count {
+        pairs.push((FIRST, 7))?;
+    }
+    Ok(pairs)
+}
+
 // What the two words hold after a crash in the midst of storing them, and `redo`.
 fn left_after(alloc: Global, k: u32, pick: Choice) -> Result<(u64, u64), JournalFault> {
-    let mut words = new_image(alloc, 64).map_err(|_| JournalFault::NoMemory)?;
+    let mut words = small(alloc).map_err(|_| JournalFault::NoMemory)?;
     cut(alloc, &mut words, &PAIRS, k, pick)?;
     redo(alloc, &mut words).map_err(|_| JournalFault::NoMemory)?;
     Ok((words.load(FIRST), words.load(SECOND)))
+}
+
+// The new image of 64 pages, whose journal is empty.
+fn small(alloc: Global) -> Result<Words, NoMemory>
+    ensures len { IfOk result (λ words. length words ≡ 32768) }
+    ensures readable { IfOk result (λ words. IsReadable words) }
+    ensures ready { IfOk result (λ words. IsReady words ((163840, 7) ∷ (163904, 9) ∷ [])) }
+{
+    new_image(alloc, 64)
 }
 
 // The first events of `apply`, and a crash.
