@@ -1,0 +1,23 @@
+// Laws of the definitions alone: functions that do nothing, for what they ensure.
+ghost use Rattle.std.specs.Prelude.{ℕ};
+ghost use Rattle.kern_owner.specs.Laws.{IsOwnTable, GrantGives, GrantKeepsRule, ReturnFrees, ReturnKeepsRule};
+
+/// Each page has its own word in the owner table, in order of the pages, and none of these is a word of
+/// another table.
+pub fn owner_word_law()
+    ensures { (pages : ℕ) → IsOwnTable pages }
+{}
+
+/// The pairs of a grant, stored, make the granted pages the coffer's and change nothing else, so that
+/// the other free pages are left. Where the coffer is there, no owner word breaks a rule after.
+pub fn grant_law()
+    ensures gives { GrantGives }
+    ensures rule { GrantKeepsRule }
+{}
+
+/// The pairs of pages that are taken back, stored, make these pages nobody's and change nothing else. No
+/// owner word breaks a rule after.
+pub fn take_back_law()
+    ensures frees { ReturnFrees }
+    ensures rule { ReturnKeepsRule }
+{}
