@@ -38,7 +38,6 @@ pub fn grant(alloc: Global, words: &Words, id: u16, count: u32) -> Result<Grant,
 
 /// The pairs that make pages nobody's. The pages may stand in any order.
 pub fn take_back(alloc: Global, words: &Words, pages: &[u32]) -> Result<Pairs, NoMemory>
-    requires sound { IsSoundKernel words.now }
     requires inside { All (λ page. page < view.pages_of words.now) pages.now }
     requires differ { IsDistinct nat_eq pages.now }
     requires coffers { All (λ page. layout.kernel_pages (view.pages_of words.now) ≤ page) pages.now }
