@@ -13,3 +13,8 @@ is_among list page = list_any (nat_eq page) list
 -- the pages of a list, the least first, so that their owner words are in order of address
 abbrev pub in_order : ℕ → List ℕ → List ℕ
 in_order pages list = filter (is_among list) (range_with_len 0 pages)
+
+-- pages for a coffer, and what is stored for it
+pub record Granted : Type 0 where
+  pub pages : List ℕ
+  pub pairs : List (ℕ × ℕ)

@@ -22,8 +22,8 @@ pub fn grant(alloc: Global, words: &Words, id: u16, count: u32) -> Result<Grant,
     requires sound { IsSoundKernel words.now }
     requires least { 1 ≤ id }
     requires most { id ≤ 256 }
-    ensures pages { IfOk result (λ given. given.pages.items ≡ take count (kernel.spare_pages words.now)) }
-    ensures pairs { IfOk result (λ given. given.pairs ≡ spec.owner_pairs (view.pages_of words.now) id given.pages.items) }
+    ensures pages { IfOk result (λ given. given.pages ≡ take count (kernel.spare_pages words.now)) }
+    ensures pairs { IfOk result (λ given. given.pairs ≡ spec.owner_pairs (view.pages_of words.now) id given.pages) }
     ensures enough { IfOk result (λ _. count ≤ length (kernel.spare_pages words.now)) }
     ensures refused { IfErr result (IsRefused count (length (kernel.spare_pages words.now))) }
 {

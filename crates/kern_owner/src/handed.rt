@@ -4,6 +4,7 @@ ghost use Rattle.kern_owner.specs.declared.handed.OwnerFault.TheVariants.{NoMemo
 
 use sqlite_items::Items;
 use std::alloc::AllocError;
+use std::marker::Model;
 use thiserror::Error;
 
 /// Words to store, each by its byte address, in order of address.
@@ -14,6 +15,14 @@ pub type Pairs = Items<(u64, u64)>;
 pub struct Grant {
     pub pages: Vec<u32>,
     pub pairs: Pairs,
+}
+
+impl Model for Grant {
+    ghost use Rattle.kern_owner.specs.Owners.{Granted};
+
+    ghost Value = { Granted };
+
+    ghost view = { λ g. record { pages = g.pages.items; pairs = g.pairs } };
 }
 
 /// Why no pages are given.

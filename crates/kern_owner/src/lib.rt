@@ -17,3 +17,6 @@ pub use changes::{grant, take_back};
 pub use handed::{Grant, OwnerFault, Pairs};
 pub use laws::{grant_law, owner_word_law, take_back_law};
 pub use owners::{free_pages, owner, pages_of};
+
+#[cfg(test)]
+mod tests;
