@@ -2,16 +2,17 @@
 use Rattle.std.proofs.Common.{◌≡◌, ◌≢◌, ◌⊎◌, inl, inr, ℕ, ◌+◌, ◌-◌, ◌*◌, ◌/◌, ◌<◌, ◌≤◌, Bool, true, false, cond, not, List, [], ◌∷◌, ◌++◌, length, take, drop, filter, map, refl, sym, ap, ◌∙◌, arith, suc, zero, nat_eq}
 use Rattle.std.specs.Prelude.{◌&&◌, ◌||◌, nat_lt, nat_le, All}
 use Rattle.std.specs.List.{range_with_len}
-use Rattle.std.proofs.lemmas.Bool.{cases_eq, cases_Bool, eq-eqb, ne_eqb, eqb-true, lt-ltb, le-ltb, leb-true, or_cases, and_parts}
+use Rattle.std.proofs.lemmas.Bool.{cases_eq, cases_Bool, eq-eqb, ne_eqb, eqb-true, lt-ltb, le-ltb, leb-true, or_cases, and_parts, false_from_ne_true}
 use Rattle.std.proofs.lemmas.List.Elements.{All-head, All-tail, All-take}
-use Rattle.zo_layout.specs.Layout.{page_at, kernel_pages, owner_table, coffer_table, owner_word, coffer_entry, coffer_state}
+use Rattle.zo_layout.specs.Layout.{page_at, kernel_pages, owner_table, coffer_table, owner_word, coffer_entry, coffer_state, coffer_control, coffer_root}
 use Rattle.tr_types.specs.Journal.{laid_over}
-use Rattle.tr_types.specs.KernelTables.{owner_in, pages_owned, pages_free, is_id, is_there, stands_in, owner_fails}
+use Rattle.tr_types.specs.KernelTables.{owner_in, pages_owned, pages_free, is_id, is_there, stands_in, owner_fails, entry_fails, bucket_fails}
 use Rattle.tr_types.specs.Kernel.{read_after}
 use Rattle.kern_owner.specs.Owners.{owner_pairs, is_among, in_order}
-use Rattle.kern_owner.specs.Laws.{IsPassed, IsGranted, IsTakenBack, OwnersPass, after_grant, after_return}
+use Rattle.kern_owner.specs.Laws.{SameTables, SameCoffers, IsPassed, OwnersPass, TablesPass, IsGranted, HasGrant, IsTakenBack, HasReturn, TakesRoot}
 use Rattle.kern_owner.proofs.RangeLemmas.{within}
 use Rattle.kern_owner.proofs.SoundLemmas.{OwnerCase, Kernels, Nobodys, Coffers, owner_case}
+use Rattle.kern_owner.proofs.TableLemmas.{entry_stays, bucket_stays}
 use Rattle.kern_owner.proofs.AmongLemmas.{filter_agree_in, filter_twice, among_append, among_filter, among_kept, among_within, among_in_order, among_take, rest_is, ascends_kept}
 
 -- Pairs for owner words, laid over what was read.
@@ -37,31 +38,27 @@ owner_read pages owner (x ∷ xs) page default =
     either false true = refl
     either false false = refl
 
-other_read : (pages owner : ℕ) (list : List ℕ) (addr default : ℕ) → All (λ page. page < pages) list
-    → (addr < page_at (owner_table pages)) ⊎ (page_at (coffer_table pages) ≤ addr) → laid_over (owner_pairs pages owner list) addr default ≡ default
+other_read : (pages owner : ℕ) (list : List ℕ) (addr default : ℕ) → All (λ page. page < pages) list → page_at (coffer_table pages) ≤ addr → laid_over (owner_pairs pages owner list) addr default ≡ default
 other_read pages owner [] addr default within outside = refl
 other_read pages owner (x ∷ xs) addr default within outside =
     let lt = All-head (λ page. page < pages) x xs within in
-    ap (λ (b : Bool). laid_over (owner_pairs pages owner xs) addr (cond b owner default)) (ne_eqb (owner_word pages x) addr (apart outside lt))
+    ap (λ (b : Bool). laid_over (owner_pairs pages owner xs) addr (cond b owner default)) (ne_eqb (owner_word pages x) addr (λ same. omega arith))
     ∙ other_read pages owner xs addr default (All-tail (λ page. page < pages) x xs within) outside
-  where
-    apart : (addr < page_at (owner_table pages)) ⊎ (page_at (coffer_table pages) ≤ addr) → x < pages → owner_word pages x ≡ addr → ⊥
-    apart (inl lt) inside same = omega arith
-    apart (inr le) inside same = omega arith
 
-pub passed : (pages owner : ℕ) (list : List ℕ) (at : ℕ → ℕ) → All (λ page. page < pages) list → IsPassed pages owner list at (read_after (owner_pairs pages owner list) at)
-passed pages owner list at within = record {
-  owners = λ page. owner_read pages owner list page (at (owner_word pages page));
-  elsewhere = λ addr outside. other_read pages owner list addr (at addr) within outside;
+-- the tables read so
+pub passed : (pages owner : ℕ) (list : List ℕ) (at after : ℕ → ℕ) → SameTables pages (read_after (owner_pairs pages owner list) at) after → All (λ page. page < pages) list → IsPassed pages owner list at after
+passed pages owner list at after same within = record {
+  owners = λ page lt. same (owner_word pages page) (omega arith) (omega arith) ∙ owner_read pages owner list page (at (owner_word pages page));
+  coffers = λ addr low high. same addr (omega arith) high ∙ other_read pages owner list addr (at addr) within low;
 }
 
 -- Whose pages are whose after: where these have become the owner's.
 
-own_after : (pages owner : ℕ) (list : List ℕ) (at after : ℕ → ℕ) → ((page : ℕ) → owner_in pages after page ≡ cond (is_among list page) owner (owner_in pages at page))
+own_after : (pages owner : ℕ) (list : List ℕ) (at after : ℕ → ℕ) → ((page : ℕ) → page < pages → owner_in pages after page ≡ cond (is_among list page) owner (owner_in pages at page))
     → pages_owned pages after owner ≡ in_order pages (pages_owned pages at owner ++ list)
 own_after pages owner list at after owners =
     filter_agree_in (λ page. nat_eq (owner_in pages after page) owner) (is_among (pages_owned pages at owner ++ list)) 0 pages (λ page low high.
-        ap (λ (o : ℕ). nat_eq o owner) (owners page)
+        ap (λ (o : ℕ). nat_eq o owner) (owners page (omega arith))
         ∙ by page (is_among list page)
         ∙ sym (among_append (pages_owned pages at owner) list page
             ∙ ap (λ (b : Bool). b || is_among list page) (among_kept (λ p. nat_eq (owner_in pages at p) owner) pages page (omega arith))))
@@ -79,11 +76,11 @@ own_after pages owner list at after owners =
         as_it_is false = refl
 
 -- another owner has left what isn't among them
-left_after : (pages owner other : ℕ) (list : List ℕ) (at after : ℕ → ℕ) → owner ≢ other → ((page : ℕ) → owner_in pages after page ≡ cond (is_among list page) owner (owner_in pages at page))
+left_after : (pages owner other : ℕ) (list : List ℕ) (at after : ℕ → ℕ) → owner ≢ other → ((page : ℕ) → page < pages → owner_in pages after page ≡ cond (is_among list page) owner (owner_in pages at page))
     → pages_owned pages after other ≡ filter (λ page. not (is_among list page)) (pages_owned pages at other)
 left_after pages owner other list at after differ owners =
     filter_agree_in (λ page. nat_eq (owner_in pages after page) other) (λ page. nat_eq (owner_in pages at page) other && not (is_among list page)) 0 pages
-        (λ page low high. ap (λ (o : ℕ). nat_eq o other) (owners page) ∙ by page (is_among list page))
+        (λ page low high. ap (λ (o : ℕ). nat_eq o other) (owners page (omega arith)) ∙ by page (is_among list page))
     ∙ sym (filter_twice (λ page. nat_eq (owner_in pages at page) other) (λ page. not (is_among list page)) (range_with_len 0 pages))
   where
     by : (page : ℕ) (b : Bool) → nat_eq (cond b owner (owner_in pages at page)) other ≡ (nat_eq (owner_in pages at page) other && not b)
@@ -108,17 +105,17 @@ granted_free pages count at page is =
 granted_within : (pages count : ℕ) (at : ℕ → ℕ) → All (λ page. page < pages) (take count (pages_free pages at))
 granted_within pages count at = All-take (λ page. page < pages) count (pages_free pages at) (within (λ page. nat_eq (owner_in pages at page) 0) pages)
 
-pub grant_gives : (pages id count : ℕ) (at : ℕ → ℕ) → id ≢ 0 → IsGranted pages id count at (after_grant pages id count at)
-grant_gives pages id count at some =
-    let pass = passed pages id (take count (pages_free pages at)) at (granted_within pages count at) in
+pub grant_gives : (pages id count : ℕ) (at after : ℕ → ℕ) → HasGrant pages id count at after → id ≢ 0 → IsGranted pages id count at after
+grant_gives pages id count at after has some =
+    let pass = passed pages id (take count (pages_free pages at)) at after has (granted_within pages count at) in
     record {
       passed = pass;
-      free = left_after pages id 0 (take count (pages_free pages at)) at (after_grant pages id count at) some pass.owners
+      free = left_after pages id 0 (take count (pages_free pages at)) at after some pass.owners
           ∙ rest_is 0 count (pages_free pages at) (ascends_kept (λ page. nat_eq (owner_in pages at page) 0) 0 pages);
-      own = own_after pages id (take count (pages_free pages at)) at (after_grant pages id count at) pass.owners;
+      own = own_after pages id (take count (pages_free pages at)) at after pass.owners;
       others = λ owner not_free not_id.
-          filter_agree_in (λ page. nat_eq (owner_in pages (after_grant pages id count at) page) owner) (λ page. nat_eq (owner_in pages at page) owner) 0 pages
-              (λ page low high. ap (λ (o : ℕ). nat_eq o owner) (pass.owners page) ∙ kept owner not_free not_id page (cases_Bool (is_among (take count (pages_free pages at)) page)));
+          filter_agree_in (λ page. nat_eq (owner_in pages after page) owner) (λ page. nat_eq (owner_in pages at page) owner) 0 pages
+              (λ page low high. ap (λ (o : ℕ). nat_eq o owner) (pass.owners page (omega arith)) ∙ kept owner not_free not_id page (cases_Bool (is_among (take count (pages_free pages at)) page)));
     }
   where
     kept : (owner : ℕ) → owner ≢ 0 → owner ≢ id → (page : ℕ)
@@ -150,66 +147,79 @@ holds pages at page (Coffers le id stands) =
     always false = refl
 
 -- which coffers are there stays, since no owner word is a word of the coffer table
-still_stands : (pages owner : ℕ) (list : List ℕ) (at after : ℕ → ℕ) → IsPassed pages owner list at after → (id : ℕ) → stands_in pages after id ≡ stands_in pages at id
-still_stands pages owner list at after pass id = ap (λ (state : ℕ). is_there state) (pass.elsewhere (coffer_state (coffer_entry pages id)) (inr (omega arith)))
+still_stands : (pages : ℕ) (at after : ℕ → ℕ) → SameCoffers pages at after → (id : ℕ) → is_id id ≡ true → stands_in pages after id ≡ stands_in pages at id
+still_stands pages at after same id is =
+    let parts = and_parts (nat_le 1 id) (nat_le id 256) is in
+    let low = leb-true 1 id parts.0 in
+    let high = leb-true id 256 parts.1 in
+    ap is_there (same (coffer_state (coffer_entry pages id)) (omega arith) (omega arith))
+
+-- a coffer's page, once the coffer is known
+coffers_hold : (pages : ℕ) (at after : ℕ → ℕ) → SameCoffers pages at after → (page id : ℕ) → owner_in pages after page ≡ id → kernel_pages pages ≤ page → is_id id ≡ true → stands_in pages at id ≡ true → OwnerCase pages after page
+coffers_hold pages at after same page id owner behind is stands =
+    Coffers behind (ap is_id owner ∙ is) (ap (λ (o : ℕ). stands_in pages after o) owner ∙ still_stands pages at after same id is ∙ stands)
 
 -- a page that isn't among those keeps its rule
-others_hold : (pages owner : ℕ) (list : List ℕ) (at after : ℕ → ℕ) → IsPassed pages owner list at after → (page : ℕ) → is_among list page ≡ false → OwnerCase pages at page → owner_fails pages after page ≡ false
-others_hold pages owner list at after pass page isnt case = holds pages after page (by case)
+others_hold : (pages owner : ℕ) (list : List ℕ) (at after : ℕ → ℕ) → IsPassed pages owner list at after → (page : ℕ) → page < pages → is_among list page ≡ false → OwnerCase pages at page → OwnerCase pages after page
+others_hold pages owner list at after pass page lt isnt case = by case
   where
     same : owner_in pages after page ≡ owner_in pages at page
-    same = pass.owners page ∙ ap (λ (b : Bool). cond b owner (owner_in pages at page)) isnt
+    same = pass.owners page lt ∙ ap (λ (b : Bool). cond b owner (owner_in pages at page)) isnt
 
     by : OwnerCase pages at page → OwnerCase pages after page
-    by (Kernels lt is) = Kernels lt (same ∙ is)
-    by (Nobodys le is) = Nobodys le (same ∙ is)
-    by (Coffers le id stands) =
-        Coffers le (ap (λ (o : ℕ). is_id o) same ∙ id)
-        (still_stands pages owner list at after pass (owner_in pages after page) ∙ ap (λ (o : ℕ). stands_in pages at o) same ∙ stands)
+    by (Kernels below is) = Kernels below (same ∙ is)
+    by (Nobodys behind is) = Nobodys behind (same ∙ is)
+    by (Coffers behind id stands) = coffers_hold pages at after pass.coffers page (owner_in pages at page) same behind id stands
 
-pub grant_keeps : (pages id count : ℕ) (at : ℕ → ℕ) → is_id id ≡ true → stands_in pages at id ≡ true → OwnersPass pages at → OwnersPass pages (after_grant pages id count at)
-grant_keeps pages id count at coffer stands passes page lt = by (cases_Bool (is_among list page)) (owner_case pages at page (passes page lt))
+granted_hold : (pages id count : ℕ) (at after : ℕ → ℕ) → IsPassed pages id (take count (pages_free pages at)) at after → is_id id ≡ true → stands_in pages at id ≡ true → OwnersPass pages at → OwnersPass pages after
+granted_hold pages id count at after pass coffer stands passes page lt =
+    holds pages after page (by (cases_Bool (is_among (take count (pages_free pages at)) page)) (owner_case pages at page (passes page lt)))
   where
-    list : List ℕ
-    list = take count (pages_free pages at)
+    by : (is_among (take count (pages_free pages at)) page ≡ true) ⊎ (is_among (take count (pages_free pages at)) page ≡ false) → OwnerCase pages at page → OwnerCase pages after page
+    by (inl is) (Kernels below kernels) = let free = granted_free pages count at page is in absurd (omega arith)
+    by (inl is) (Nobodys behind none) =
+        coffers_hold pages at after pass.coffers page id (pass.owners page lt ∙ ap (λ (b : Bool). cond b id (owner_in pages at page)) is) behind coffer stands
+    by (inl is) (Coffers behind other there) =
+        coffers_hold pages at after pass.coffers page id (pass.owners page lt ∙ ap (λ (b : Bool). cond b id (owner_in pages at page)) is) behind coffer stands
+    by (inr isnt) case = others_hold pages id (take count (pages_free pages at)) at after pass page lt isnt case
 
-    pass : IsPassed pages id list at (after_grant pages id count at)
-    pass = passed pages id list at (granted_within pages count at)
+-- a page of a coffer isn't granted
+granted_kept : (pages id count : ℕ) (at after : ℕ → ℕ) → IsPassed pages id (take count (pages_free pages at)) at after → (page owner : ℕ) → page < pages → 1 ≤ owner → owner_in pages at page ≡ owner → owner_in pages after page ≡ owner
+granted_kept pages id count at after pass page owner lt some is =
+    pass.owners page lt ∙ by (cases_Bool (is_among (take count (pages_free pages at)) page)) ∙ is
+  where
+    by : (is_among (take count (pages_free pages at)) page ≡ true) ⊎ (is_among (take count (pages_free pages at)) page ≡ false)
+        → cond (is_among (take count (pages_free pages at)) page) id (owner_in pages at page) ≡ owner_in pages at page
+    by (inl given) = let free = granted_free pages count at page given in absurd (omega arith)
+    by (inr isnt) = ap (λ (b : Bool). cond b id (owner_in pages at page)) isnt
 
-    mine : is_among list page ≡ true → owner_in pages (after_grant pages id count at) page ≡ id
-    mine is = pass.owners page ∙ ap (λ (b : Bool). cond b id (owner_in pages at page)) is
-
-    given : is_among list page ≡ true → OwnerCase pages at page → OwnerCase pages (after_grant pages id count at) page
-    given is (Kernels below kernels) = let free = granted_free pages count at page is in absurd (omega arith)
-    given is (Nobodys behind none) =
-        Coffers behind (ap (λ (o : ℕ). is_id o) (mine is) ∙ coffer)
-        (still_stands pages id list at (after_grant pages id count at) pass (owner_in pages (after_grant pages id count at) page) ∙ ap (λ (o : ℕ). stands_in pages at o) (mine is) ∙ stands)
-    given is (Coffers behind other there) =
-        Coffers behind (ap (λ (o : ℕ). is_id o) (mine is) ∙ coffer)
-        (still_stands pages id list at (after_grant pages id count at) pass (owner_in pages (after_grant pages id count at) page) ∙ ap (λ (o : ℕ). stands_in pages at o) (mine is) ∙ stands)
-
-    by : (is_among list page ≡ true) ⊎ (is_among list page ≡ false) → OwnerCase pages at page → owner_fails pages (after_grant pages id count at) page ≡ false
-    by (inl is) case = holds pages (after_grant pages id count at) page (given is case)
-    by (inr isnt) case = others_hold pages id list at (after_grant pages id count at) pass page isnt case
+pub grant_keeps : (pages id count : ℕ) (at after : ℕ → ℕ) → HasGrant pages id count at after → is_id id ≡ true → stands_in pages at id ≡ true → TablesPass pages at → TablesPass pages after
+grant_keeps pages id count at after has coffer stands passes =
+    let pass = passed pages id (take count (pages_free pages at)) at after has (granted_within pages count at) in
+    record {
+      owners = granted_hold pages id count at after pass coffer stands passes.owners;
+      entries = λ other low high. entry_stays pages at after pass.coffers other low high (λ page which lt is. granted_kept pages id count at after pass page other lt low is) (passes.entries other low high);
+      buckets = λ bucket lt. bucket_stays pages at after pass.coffers bucket lt (passes.buckets bucket lt);
+    }
 
 -- Pages that go back.
 
 -- the pairs are those of the list, in order
-returned : (pages : ℕ) (list : List ℕ) (at : ℕ → ℕ) → All (λ page. page < pages) list → IsPassed pages 0 list at (after_return pages list at)
-returned pages list at inside =
-    let pass = passed pages 0 (in_order pages list) at (within (is_among list) pages) in
+returned : (pages : ℕ) (list : List ℕ) (at after : ℕ → ℕ) → HasReturn pages list at after → All (λ page. page < pages) list → IsPassed pages 0 list at after
+returned pages list at after has inside =
+    let pass = passed pages 0 (in_order pages list) at after has (within (is_among list) pages) in
     record {
-      owners = λ page. pass.owners page ∙ ap (λ (b : Bool). cond b 0 (owner_in pages at page)) (among_in_order pages list page inside);
-      elsewhere = pass.elsewhere;
+      owners = λ page lt. pass.owners page lt ∙ ap (λ (b : Bool). cond b 0 (owner_in pages at page)) (among_in_order pages list page inside);
+      coffers = pass.coffers;
     }
 
-pub return_frees : (pages : ℕ) (list : List ℕ) (at : ℕ → ℕ) → All (λ page. page < pages) list → IsTakenBack pages list at (after_return pages list at)
-return_frees pages list at inside =
-    let pass = returned pages list at inside in
+pub return_frees : (pages : ℕ) (list : List ℕ) (at after : ℕ → ℕ) → HasReturn pages list at after → All (λ page. page < pages) list → IsTakenBack pages list at after
+return_frees pages list at after has inside =
+    let pass = returned pages list at after has inside in
     record {
       passed = pass;
-      free = own_after pages 0 list at (after_return pages list at) pass.owners;
-      left = λ owner some. left_after pages 0 owner list at (after_return pages list at) (λ same. some (sym same)) pass.owners;
+      free = own_after pages 0 list at after pass.owners;
+      left = λ owner some. left_after pages 0 owner list at after (λ same. some (sym same)) pass.owners;
     }
 
 from_kernel : (pages : ℕ) (list : List ℕ) (page : ℕ) → All (λ p. kernel_pages pages ≤ p) list → is_among list page ≡ true → kernel_pages pages ≤ page
@@ -221,11 +231,25 @@ from_kernel pages (x ∷ xs) page behind is =
     by (inl here) later = let is = eqb-true page x here in let le = All-head (λ p. kernel_pages pages ≤ p) x xs behind in omega arith
     by (inr there) later = later there
 
-pub return_keeps : (pages : ℕ) (list : List ℕ) (at : ℕ → ℕ) → All (λ page. page < pages) list → All (λ page. kernel_pages pages ≤ page) list → OwnersPass pages at → OwnersPass pages (after_return pages list at)
-return_keeps pages list at inside behind passes page lt = by (cases_Bool (is_among list page))
+pub return_keeps_owners : (pages : ℕ) (list : List ℕ) (at after : ℕ → ℕ) → HasReturn pages list at after → All (λ page. page < pages) list → All (λ page. kernel_pages pages ≤ page) list → OwnersPass pages at → OwnersPass pages after
+return_keeps_owners pages list at after has inside behind passes page lt = holds pages after page (by (cases_Bool (is_among list page)))
   where
-    by : (is_among list page ≡ true) ⊎ (is_among list page ≡ false) → owner_fails pages (after_return pages list at) page ≡ false
+    by : (is_among list page ≡ true) ⊎ (is_among list page ≡ false) → OwnerCase pages after page
     by (inl is) =
-        holds pages (after_return pages list at) page
-        (Nobodys (from_kernel pages list page behind is) ((returned pages list at inside).owners page ∙ ap (λ (b : Bool). cond b 0 (owner_in pages at page)) is))
-    by (inr isnt) = others_hold pages 0 list at (after_return pages list at) (returned pages list at inside) page isnt (owner_case pages at page (passes page lt))
+        Nobodys (from_kernel pages list page behind is) ((returned pages list at after has inside).owners page lt ∙ ap (λ (b : Bool). cond b 0 (owner_in pages at page)) is)
+    by (inr isnt) = others_hold pages 0 list at after (returned pages list at after has inside) page lt isnt (owner_case pages at page (passes page lt))
+
+pub return_keeps_entries : (pages : ℕ) (list : List ℕ) (at after : ℕ → ℕ) → HasReturn pages list at after → All (λ page. page < pages) list
+    → (id : ℕ) → 1 ≤ id → id ≤ 256 → (TakesRoot pages list at id → ⊥) → entry_fails pages at id ≡ false → entry_fails pages after id ≡ false
+return_keeps_entries pages list at after has inside id low high spares passes =
+    entry_stays pages at after (returned pages list at after has inside).coffers id low high
+        (λ page which lt is. (returned pages list at after has inside).owners page lt ∙ ap (λ (b : Bool). cond b 0 (owner_in pages at page)) (false_from_ne_true (is_among list page) (λ taken. spares (by page which taken))) ∙ is)
+        passes
+  where
+    by : (page : ℕ) → (page ≡ at (coffer_control (coffer_entry pages id))) ⊎ (page ≡ at (coffer_root (coffer_entry pages id))) → is_among list page ≡ true → TakesRoot pages list at id
+    by page (inl is) taken = inl (ap (λ (p : ℕ). is_among list p) (sym is) ∙ taken)
+    by page (inr is) taken = inr (ap (λ (p : ℕ). is_among list p) (sym is) ∙ taken)
+
+pub return_keeps_buckets : (pages : ℕ) (list : List ℕ) (at after : ℕ → ℕ) → HasReturn pages list at after → All (λ page. page < pages) list
+    → (bucket : ℕ) → bucket < 256 → bucket_fails pages at bucket ≡ false → bucket_fails pages after bucket ≡ false
+return_keeps_buckets pages list at after has inside bucket lt passes = bucket_stays pages at after (returned pages list at after has inside).coffers bucket lt passes

@@ -6,3 +6,5 @@ pub mod SoundLemmas
 pub mod AmongLemmas
 -- what the owner table says once pairs are stored
 pub mod LawLemmas
+-- the rules of coffers and path buckets
+pub mod TableLemmas

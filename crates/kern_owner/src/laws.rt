@@ -1,6 +1,6 @@
 // Laws of the definitions alone: functions that do nothing, for what they ensure.
 ghost use Rattle.std.specs.Prelude.{ℕ};
-ghost use Rattle.kern_owner.specs.Laws.{IsOwnTable, GrantGives, GrantKeepsRule, ReturnFrees, ReturnKeepsRule};
+ghost use Rattle.kern_owner.specs.Laws.{IsOwnTable, GrantGives, GrantKeepsRules, ReturnFrees, ReturnKeepsOwners, ReturnKeepsEntries, ReturnKeepsBuckets};
 
 /// Each page has its own word in the owner table, in order of the pages, and none of these is a word of
 /// another table.
@@ -9,15 +9,17 @@ pub fn owner_word_law()
 {}
 
 /// The pairs of a grant, stored, make the granted pages the coffer's and change nothing else, so that
-/// the other free pages are left. Where the coffer is there, no owner word breaks a rule after.
+/// the other free pages are left. Where the coffer is there, the tables break no rule after.
 pub fn grant_law()
     ensures gives { GrantGives }
-    ensures rule { GrantKeepsRule }
+    ensures rules { GrantKeepsRules }
 {}
 
 /// The pairs of pages that are taken back, stored, make these pages nobody's and change nothing else. No
-/// owner word breaks a rule after.
+/// owner word and no path bucket breaks a rule after, and no coffer whose own two pages stay.
 pub fn take_back_law()
     ensures frees { ReturnFrees }
-    ensures rule { ReturnKeepsRule }
+    ensures owners { ReturnKeepsOwners }
+    ensures entries { ReturnKeepsEntries }
+    ensures buckets { ReturnKeepsBuckets }
 {}
