@@ -9,7 +9,7 @@ use Rattle.tr_types.specs.Journal.{laid_over}
 use Rattle.tr_types.specs.KernelTables.{owner_in, pages_owned, pages_free, is_id, is_there, stands_in, owner_fails, entry_fails, bucket_fails}
 use Rattle.tr_types.specs.Kernel.{read_after}
 use Rattle.kern_owner.specs.Owners.{owner_pairs, is_among, in_order}
-use Rattle.kern_owner.specs.Laws.{SameTables, SameCoffers, IsPassed, OwnersPass, TablesPass, IsGranted, HasGrant, IsTakenBack, HasReturn, TakesRoot}
+use Rattle.kern_owner.specs.Laws.{SameTables, SameCoffers, IsPassed, OwnersPass, TablesPass, HasPassed, IsGranted, HasGrant, IsTakenBack, HasReturn, TakesRoot}
 use Rattle.kern_owner.proofs.RangeLemmas.{within}
 use Rattle.kern_owner.proofs.SoundLemmas.{OwnerCase, Kernels, Nobodys, Coffers, owner_case}
 use Rattle.kern_owner.proofs.TableLemmas.{entry_stays, bucket_stays}
@@ -171,36 +171,79 @@ others_hold pages owner list at after pass page lt isnt case = by case
     by (Nobodys behind is) = Nobodys behind (same ∙ is)
     by (Coffers behind id stands) = coffers_hold pages at after pass.coffers page (owner_in pages at page) same behind id stands
 
-granted_hold : (pages id count : ℕ) (at after : ℕ → ℕ) → IsPassed pages id (take count (pages_free pages at)) at after → is_id id ≡ true → stands_in pages at id ≡ true → OwnersPass pages at → OwnersPass pages after
-granted_hold pages id count at after pass coffer stands passes page lt =
-    holds pages after page (by (cases_Bool (is_among (take count (pages_free pages at)) page)) (owner_case pages at page (passes page lt)))
-  where
-    by : (is_among (take count (pages_free pages at)) page ≡ true) ⊎ (is_among (take count (pages_free pages at)) page ≡ false) → OwnerCase pages at page → OwnerCase pages after page
-    by (inl is) (Kernels below kernels) = let free = granted_free pages count at page is in absurd (omega arith)
-    by (inl is) (Nobodys behind none) =
-        coffers_hold pages at after pass.coffers page id (pass.owners page lt ∙ ap (λ (b : Bool). cond b id (owner_in pages at page)) is) behind coffer stands
-    by (inl is) (Coffers behind other there) =
-        coffers_hold pages at after pass.coffers page id (pass.owners page lt ∙ ap (λ (b : Bool). cond b id (owner_in pages at page)) is) behind coffer stands
-    by (inr isnt) case = others_hold pages id (take count (pages_free pages at)) at after pass page lt isnt case
+-- Pages that come to a coffer that is there.
 
--- a page of a coffer isn't granted
-granted_kept : (pages id count : ℕ) (at after : ℕ → ℕ) → IsPassed pages id (take count (pages_free pages at)) at after → (page owner : ℕ) → page < pages → 1 ≤ owner → owner_in pages at page ≡ owner → owner_in pages after page ≡ owner
-granted_kept pages id count at after pass page owner lt some is =
-    pass.owners page lt ∙ by (cases_Bool (is_among (take count (pages_free pages at)) page)) ∙ is
+from_kernel : (pages : ℕ) (list : List ℕ) (page : ℕ) → All (λ p. kernel_pages pages ≤ p) list → is_among list page ≡ true → kernel_pages pages ≤ page
+from_kernel pages [] page behind is = absurd (cc)
+from_kernel pages (x ∷ xs) page behind is =
+    by (or_cases (nat_eq page x) (is_among xs page) is) (from_kernel pages xs page (All-tail (λ p. kernel_pages pages ≤ p) x xs behind))
   where
-    by : (is_among (take count (pages_free pages at)) page ≡ true) ⊎ (is_among (take count (pages_free pages at)) page ≡ false)
-        → cond (is_among (take count (pages_free pages at)) page) id (owner_in pages at page) ≡ owner_in pages at page
-    by (inl given) = let free = granted_free pages count at page given in absurd (omega arith)
-    by (inr isnt) = ap (λ (b : Bool). cond b id (owner_in pages at page)) isnt
+    by : (nat_eq page x ≡ true) ⊎ (is_among xs page ≡ true) → (is_among xs page ≡ true → kernel_pages pages ≤ page) → kernel_pages pages ≤ page
+    by (inl here) later = let is = eqb-true page x here in let le = All-head (λ p. kernel_pages pages ≤ p) x xs behind in omega arith
+    by (inr there) later = later there
+
+passed_hold : (pages owner : ℕ) (list : List ℕ) (at after : ℕ → ℕ) → IsPassed pages owner list at after → ((page : ℕ) → page < pages → is_among list page ≡ true → kernel_pages pages ≤ page)
+    → is_id owner ≡ true → stands_in pages at owner ≡ true → OwnersPass pages at → OwnersPass pages after
+passed_hold pages owner list at after pass behind coffer stands passes page lt =
+    holds pages after page (by (cases_Bool (is_among list page)))
+  where
+    by : (is_among list page ≡ true) ⊎ (is_among list page ≡ false) → OwnerCase pages after page
+    by (inl is) = coffers_hold pages at after pass.coffers page owner (pass.owners page lt ∙ ap (λ (b : Bool). cond b owner (owner_in pages at page)) is) (behind page lt is) coffer stands
+    by (inr isnt) = others_hold pages owner list at after pass page lt isnt (owner_case pages at page (passes page lt))
+
+-- every rule holds after, if each coffer that is there keeps its own two pages
+rules_hold : (pages owner : ℕ) (list : List ℕ) (at after : ℕ → ℕ) → IsPassed pages owner list at after → ((page : ℕ) → page < pages → is_among list page ≡ true → kernel_pages pages ≤ page)
+    → ((id : ℕ) → 1 ≤ id → id ≤ 256 → stands_in pages at id ≡ true → (page : ℕ) → (page ≡ at (coffer_control (coffer_entry pages id))) ⊎ (page ≡ at (coffer_root (coffer_entry pages id))) → page < pages
+        → owner_in pages at page ≡ id → owner_in pages after page ≡ id)
+    → is_id owner ≡ true → stands_in pages at owner ≡ true → TablesPass pages at → TablesPass pages after
+rules_hold pages owner list at after pass behind kept coffer stands passes = record {
+  owners = passed_hold pages owner list at after pass behind coffer stands passes.owners;
+  entries = λ id low high. entry_stays pages at after pass.coffers id low high (kept id low high) (passes.entries id low high);
+  buckets = λ bucket lt. bucket_stays pages at after pass.coffers bucket lt (passes.buckets bucket lt);
+}
+
+-- a page that isn't among those keeps its owner
+others_kept : (pages owner : ℕ) (list : List ℕ) (at after : ℕ → ℕ) → IsPassed pages owner list at after → (page : ℕ) → page < pages → is_among list page ≡ false → owner_in pages after page ≡ owner_in pages at page
+others_kept pages owner list at after pass page lt isnt = pass.owners page lt ∙ ap (λ (b : Bool). cond b owner (owner_in pages at page)) isnt
+
+pub pass_keeps : (pages owner : ℕ) (list : List ℕ) (at after : ℕ → ℕ) → HasPassed pages owner list at after → All (λ page. page < pages) list → All (λ page. kernel_pages pages ≤ page) list
+    → ((id : ℕ) → 1 ≤ id → id ≤ 256 → id ≢ owner → TakesRoot pages list at id → ⊥)
+    → is_id owner ≡ true → stands_in pages at owner ≡ true → TablesPass pages at → TablesPass pages after
+pass_keeps pages owner list at after has inside behind spares coffer stands passes =
+    rules_hold pages owner list at after pass (λ page lt is. from_kernel pages list page behind is)
+        (λ id low high there page which lt is. by id low high there page which lt is (cases_Bool (is_among list page)) (cases_eq id owner))
+        coffer stands passes
+  where
+    pass : IsPassed pages owner list at after
+    pass = passed pages owner list at after has inside
+
+    takes : (id page : ℕ) → stands_in pages at id ≡ true → (page ≡ at (coffer_control (coffer_entry pages id))) ⊎ (page ≡ at (coffer_root (coffer_entry pages id))) → is_among list page ≡ true → TakesRoot pages list at id
+    takes id page there (inl is) taken = record { there = there; taken = inl (ap (λ (p : ℕ). is_among list p) (sym is) ∙ taken) }
+    takes id page there (inr is) taken = record { there = there; taken = inr (ap (λ (p : ℕ). is_among list p) (sym is) ∙ taken) }
+
+    by : (id : ℕ) → 1 ≤ id → id ≤ 256 → stands_in pages at id ≡ true → (page : ℕ) → (page ≡ at (coffer_control (coffer_entry pages id))) ⊎ (page ≡ at (coffer_root (coffer_entry pages id))) → page < pages
+        → owner_in pages at page ≡ id → (is_among list page ≡ true) ⊎ (is_among list page ≡ false) → (id ≡ owner) ⊎ (id ≡ owner → ⊥) → owner_in pages after page ≡ id
+    by id low high there page which lt is (inl taken) (inl same) = pass.owners page lt ∙ ap (λ (b : Bool). cond b owner (owner_in pages at page)) taken ∙ sym same
+    by id low high there page which lt is (inl taken) (inr other) = absurd (spares id low high other (takes id page there which taken))
+    by id low high there page which lt is (inr isnt) either = others_kept pages owner list at after pass page lt isnt ∙ is
 
 pub grant_keeps : (pages id count : ℕ) (at after : ℕ → ℕ) → HasGrant pages id count at after → is_id id ≡ true → stands_in pages at id ≡ true → TablesPass pages at → TablesPass pages after
 grant_keeps pages id count at after has coffer stands passes =
-    let pass = passed pages id (take count (pages_free pages at)) at after has (granted_within pages count at) in
-    record {
-      owners = granted_hold pages id count at after pass coffer stands passes.owners;
-      entries = λ other low high. entry_stays pages at after pass.coffers other low high (λ page which lt is. granted_kept pages id count at after pass page other lt low is) (passes.entries other low high);
-      buckets = λ bucket lt. bucket_stays pages at after pass.coffers bucket lt (passes.buckets bucket lt);
-    }
+    rules_hold pages id (take count (pages_free pages at)) at after pass (λ page lt is. behind page is (owner_case pages at page (passes.owners page lt)))
+        (λ other low high there page which lt is. by other low page lt is (cases_Bool (is_among (take count (pages_free pages at)) page)))
+        coffer stands passes
+  where
+    pass : IsPassed pages id (take count (pages_free pages at)) at after
+    pass = passed pages id (take count (pages_free pages at)) at after has (granted_within pages count at)
+
+    behind : (page : ℕ) → is_among (take count (pages_free pages at)) page ≡ true → OwnerCase pages at page → kernel_pages pages ≤ page
+    behind page is (Kernels below kernels) = let free = granted_free pages count at page is in absurd (omega arith)
+    behind page is (Nobodys le none) = le
+    behind page is (Coffers le other there) = le
+
+    by : (other : ℕ) → 1 ≤ other → (page : ℕ) → page < pages → owner_in pages at page ≡ other → (is_among (take count (pages_free pages at)) page ≡ true) ⊎ (is_among (take count (pages_free pages at)) page ≡ false) → owner_in pages after page ≡ other
+    by other some page lt is (inl given) = let free = granted_free pages count at page given in absurd (omega arith)
+    by other some page lt is (inr isnt) = others_kept pages id (take count (pages_free pages at)) at after pass page lt isnt ∙ is
 
 -- Pages that go back.
 
@@ -222,15 +265,6 @@ return_frees pages list at after has inside =
       left = λ owner some. left_after pages 0 owner list at after (λ same. some (sym same)) pass.owners;
     }
 
-from_kernel : (pages : ℕ) (list : List ℕ) (page : ℕ) → All (λ p. kernel_pages pages ≤ p) list → is_among list page ≡ true → kernel_pages pages ≤ page
-from_kernel pages [] page behind is = absurd (cc)
-from_kernel pages (x ∷ xs) page behind is =
-    by (or_cases (nat_eq page x) (is_among xs page) is) (from_kernel pages xs page (All-tail (λ p. kernel_pages pages ≤ p) x xs behind))
-  where
-    by : (nat_eq page x ≡ true) ⊎ (is_among xs page ≡ true) → (is_among xs page ≡ true → kernel_pages pages ≤ page) → kernel_pages pages ≤ page
-    by (inl here) later = let is = eqb-true page x here in let le = All-head (λ p. kernel_pages pages ≤ p) x xs behind in omega arith
-    by (inr there) later = later there
-
 pub return_keeps_owners : (pages : ℕ) (list : List ℕ) (at after : ℕ → ℕ) → HasReturn pages list at after → All (λ page. page < pages) list → All (λ page. kernel_pages pages ≤ page) list → OwnersPass pages at → OwnersPass pages after
 return_keeps_owners pages list at after has inside behind passes page lt = holds pages after page (by (cases_Bool (is_among list page)))
   where
@@ -243,12 +277,13 @@ pub return_keeps_entries : (pages : ℕ) (list : List ℕ) (at after : ℕ → �
     → (id : ℕ) → 1 ≤ id → id ≤ 256 → (TakesRoot pages list at id → ⊥) → entry_fails pages at id ≡ false → entry_fails pages after id ≡ false
 return_keeps_entries pages list at after has inside id low high spares passes =
     entry_stays pages at after (returned pages list at after has inside).coffers id low high
-        (λ page which lt is. (returned pages list at after has inside).owners page lt ∙ ap (λ (b : Bool). cond b 0 (owner_in pages at page)) (false_from_ne_true (is_among list page) (λ taken. spares (by page which taken))) ∙ is)
+        (λ there page which lt is.
+            others_kept pages 0 list at after (returned pages list at after has inside) page lt (false_from_ne_true (is_among list page) (λ taken. spares (by there page which taken))) ∙ is)
         passes
   where
-    by : (page : ℕ) → (page ≡ at (coffer_control (coffer_entry pages id))) ⊎ (page ≡ at (coffer_root (coffer_entry pages id))) → is_among list page ≡ true → TakesRoot pages list at id
-    by page (inl is) taken = inl (ap (λ (p : ℕ). is_among list p) (sym is) ∙ taken)
-    by page (inr is) taken = inr (ap (λ (p : ℕ). is_among list p) (sym is) ∙ taken)
+    by : stands_in pages at id ≡ true → (page : ℕ) → (page ≡ at (coffer_control (coffer_entry pages id))) ⊎ (page ≡ at (coffer_root (coffer_entry pages id))) → is_among list page ≡ true → TakesRoot pages list at id
+    by there page (inl is) taken = record { there = there; taken = inl (ap (λ (p : ℕ). is_among list p) (sym is) ∙ taken) }
+    by there page (inr is) taken = record { there = there; taken = inr (ap (λ (p : ℕ). is_among list p) (sym is) ∙ taken) }
 
 pub return_keeps_buckets : (pages : ℕ) (list : List ℕ) (at after : ℕ → ℕ) → HasReturn pages list at after → All (λ page. page < pages) list
     → (bucket : ℕ) → bucket < 256 → bucket_fails pages at bucket ≡ false → bucket_fails pages after bucket ≡ false

@@ -140,7 +140,7 @@ pages_passed pages at c passes =
     (or_parts (first || path_fails pages at c.id || not (nat_eq c.kind 0)) (pages_fail pages at c) p4.0).1
 
 pub entry_stays : (pages : ℕ) (at after : ℕ → ℕ) → SameCoffers pages at after → (id : ℕ) → 1 ≤ id → id ≤ 256
-    → ((page : ℕ) → (page ≡ at (coffer_control (coffer_entry pages id))) ⊎ (page ≡ at (coffer_root (coffer_entry pages id))) → page < pages → owner_in pages at page ≡ id → owner_in pages after page ≡ id)
+    → (stands_in pages at id ≡ true → (page : ℕ) → (page ≡ at (coffer_control (coffer_entry pages id))) ⊎ (page ≡ at (coffer_root (coffer_entry pages id))) → page < pages → owner_in pages at page ≡ id → owner_in pages after page ≡ id)
     → entry_fails pages at id ≡ false → entry_fails pages after id ≡ false
 entry_stays pages at after same id low high kept passes = reads ∙ by (cases_Bool (stands_in pages at id))
   where
@@ -157,7 +157,7 @@ entry_stays pages at after same id low high kept passes = reads ∙ by (cases_Bo
         let before = sym (ap (λ (b : Bool). cond b (coffer_fails pages at (coffer_in pages at id)) (not (nat_eq (at (coffer_state (coffer_entry pages id))) 0) || nat_eq id 1)) stands) ∙ passes in
         ap (λ (b : Bool). cond b (coffer_fails pages after (coffer_in pages at id)) (not (nat_eq (at (coffer_state (coffer_entry pages id))) 0) || nat_eq id 1)) stands
         ∙ coffer_stays pages at after (coffer_in pages at id) (path_fails_same pages at after same id low high) (twice_same pages at after same id low high)
-            (pages_pass pages at after (coffer_in pages at id) kept (pages_passed pages at (coffer_in pages at id) before)) before
+            (pages_pass pages at after (coffer_in pages at id) (kept stands) (pages_passed pages at (coffer_in pages at id) before)) before
     by (inr gone) =
         ap (λ (b : Bool). cond b (coffer_fails pages after (coffer_in pages at id)) (not (nat_eq (at (coffer_state (coffer_entry pages id))) 0) || nat_eq id 1)) gone
         ∙ sym (ap (λ (b : Bool). cond b (coffer_fails pages at (coffer_in pages at id)) (not (nat_eq (at (coffer_state (coffer_entry pages id))) 0) || nat_eq id 1)) gone)

@@ -36,6 +36,29 @@ pub record TablesPass (pages : ℕ) (at : ℕ → ℕ) : Type 0 where
   pub entries : (id : ℕ) → 1 ≤ id → id ≤ 256 → entry_fails pages at id ≡ false
   pub buckets : (bucket : ℕ) → bucket < 256 → bucket_fails pages at bucket ≡ false
 
+-- Pages that come to an owner.
+
+-- the tables read as they were with the pairs of a list of pages laid over them
+abbrev pub HasPassed : ℕ → ℕ → List ℕ → (ℕ → ℕ) → (ℕ → ℕ) → Type 0
+HasPassed pages owner list at after = SameTables pages (read_after (owner_pairs pages owner list) at) after
+
+abbrev pub PairsPass : Type 0
+PairsPass = (pages owner : ℕ) (list : List ℕ) (at after : ℕ → ℕ) → HasPassed pages owner list at after
+    → All (λ page. page < pages) list → IsPassed pages owner list at after
+
+-- the control page or the root page of a coffer that is there is in the list
+pub record TakesRoot (pages : ℕ) (list : List ℕ) (at : ℕ → ℕ) (id : ℕ) : Type 0 where
+  pub there : stands_in pages at id ≡ true
+  pub taken : (is_among list (at (coffer_control (coffer_entry pages id))) ≡ true) ⊎ (is_among list (at (coffer_root (coffer_entry pages id))) ≡ true)
+
+-- pages other than the kernel's that come to a coffer that is there keep the rules of the tables, if no other coffer's
+-- control page or root page is among them
+abbrev pub PassKeepsRules : Type 0
+PassKeepsRules = (pages owner : ℕ) (list : List ℕ) (at after : ℕ → ℕ) → HasPassed pages owner list at after
+    → All (λ page. page < pages) list → All (λ page. kernel_pages pages ≤ page) list
+    → ((id : ℕ) → 1 ≤ id → id ≤ 256 → id ≢ owner → TakesRoot pages list at id → ⊥)
+    → is_id owner ≡ true → stands_in pages at owner ≡ true → TablesPass pages at → TablesPass pages after
+
 -- Grants.
 
 -- The least free pages have become those of a coffer: the others are left, and no other owner has more pages or fewer.
@@ -47,7 +70,7 @@ pub record IsGranted (pages id count : ℕ) (at after : ℕ → ℕ) : Type 0 wh
 
 -- the tables read as they were with a grant's pairs laid over them
 abbrev pub HasGrant : ℕ → ℕ → ℕ → (ℕ → ℕ) → (ℕ → ℕ) → Type 0
-HasGrant pages id count at after = SameTables pages (read_after (owner_pairs pages id (take count (pages_free pages at))) at) after
+HasGrant pages id count at after = HasPassed pages id (take count (pages_free pages at)) at after
 
 abbrev pub GrantGives : Type 0
 GrantGives = (pages id count : ℕ) (at after : ℕ → ℕ) → HasGrant pages id count at after → id ≢ 0 → IsGranted pages id count at after
@@ -67,7 +90,7 @@ pub record IsTakenBack (pages : ℕ) (list : List ℕ) (at after : ℕ → ℕ) 
 
 -- the tables read as they were with the pairs of pages that go back laid over them
 abbrev pub HasReturn : ℕ → List ℕ → (ℕ → ℕ) → (ℕ → ℕ) → Type 0
-HasReturn pages list at after = SameTables pages (read_after (owner_pairs pages 0 (in_order pages list)) at) after
+HasReturn pages list at after = HasPassed pages 0 (in_order pages list) at after
 
 abbrev pub ReturnFrees : Type 0
 ReturnFrees = (pages : ℕ) (list : List ℕ) (at after : ℕ → ℕ) → HasReturn pages list at after
@@ -77,11 +100,6 @@ ReturnFrees = (pages : ℕ) (list : List ℕ) (at after : ℕ → ℕ) → HasRe
 abbrev pub ReturnKeepsOwners : Type 0
 ReturnKeepsOwners = (pages : ℕ) (list : List ℕ) (at after : ℕ → ℕ) → HasReturn pages list at after
     → All (λ page. page < pages) list → All (λ page. kernel_pages pages ≤ page) list → OwnersPass pages at → OwnersPass pages after
-
--- the entry's control page or root page is in the list
-abbrev pub TakesRoot : ℕ → List ℕ → (ℕ → ℕ) → ℕ → Type 0
-TakesRoot pages list at id =
-    (is_among list (at (coffer_control (coffer_entry pages id))) ≡ true) ⊎ (is_among list (at (coffer_root (coffer_entry pages id))) ≡ true)
 
 -- taken back, they keep the rule of each coffer whose control page and root page aren't among them
 abbrev pub ReturnKeepsEntries : Type 0

@@ -1,11 +1,19 @@
 // Laws of the definitions alone: functions that do nothing, for what they ensure.
 ghost use Rattle.std.specs.Prelude.{ℕ};
-ghost use Rattle.kern_owner.specs.Laws.{IsOwnTable, GrantGives, GrantKeepsRules, ReturnFrees, ReturnKeepsOwners, ReturnKeepsEntries, ReturnKeepsBuckets};
+ghost use Rattle.kern_owner.specs.Laws.{IsOwnTable, PairsPass, PassKeepsRules, GrantGives, GrantKeepsRules, ReturnFrees, ReturnKeepsOwners, ReturnKeepsEntries, ReturnKeepsBuckets};
 
 /// Each page has its own word in the owner table, in order of the pages, and none of these is a word of
 /// another table.
 pub fn owner_word_law()
     ensures { (pages : ℕ) → IsOwnTable pages }
+{}
+
+/// Pairs that make pages an owner's, stored, make these pages the owner's and change nothing else. Where
+/// it is a coffer that is there, and the pages are no other coffer's own two and not the kernel's, the
+/// tables break no rule after.
+pub fn pass_law()
+    ensures gives { PairsPass }
+    ensures rules { PassKeepsRules }
 {}
 
 /// The pairs of a grant, stored, make the granted pages the coffer's and change nothing else, so that

@@ -15,7 +15,7 @@ mod owners;
 
 pub use changes::{grant, take_back};
 pub use handed::{Grant, OwnerFault, Pairs};
-pub use laws::{grant_law, owner_word_law, take_back_law};
+pub use laws::{grant_law, owner_word_law, pass_law, take_back_law};
 pub use owners::{free_pages, owner, pages_of};
 
 #[cfg(test)]
