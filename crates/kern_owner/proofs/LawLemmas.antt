@@ -48,8 +48,8 @@ other_read pages owner (x ∷ xs) addr default within outside =
 -- the tables read so
 pub passed : (pages owner : ℕ) (list : List ℕ) (at after : ℕ → ℕ) → SameTables pages (read_after (owner_pairs pages owner list) at) after → All (λ page. page < pages) list → IsPassed pages owner list at after
 passed pages owner list at after same within = record {
-  owners = λ page lt. same (owner_word pages page) (omega arith) (omega arith) ∙ owner_read pages owner list page (at (owner_word pages page));
-  coffers = λ addr low high. same addr (omega arith) high ∙ other_read pages owner list addr (at addr) within low;
+  owners = λ page lt. same (owner_word pages page) (omega arith) (omega arith) (omega arith) ∙ owner_read pages owner list page (at (owner_word pages page));
+  coffers = λ addr whole low high. same addr whole (omega arith) high ∙ other_read pages owner list addr (at addr) within low;
 }
 
 -- Whose pages are whose after: where these have become the owner's.
@@ -152,7 +152,7 @@ still_stands pages at after same id is =
     let parts = and_parts (nat_le 1 id) (nat_le id 256) is in
     let low = leb-true 1 id parts.0 in
     let high = leb-true id 256 parts.1 in
-    ap is_there (same (coffer_state (coffer_entry pages id)) (omega arith) (omega arith))
+    ap is_there (same (coffer_state (coffer_entry pages id)) (omega arith) (omega arith) (omega arith))
 
 -- a coffer's page, once the coffer is known
 coffers_hold : (pages : ℕ) (at after : ℕ → ℕ) → SameCoffers pages at after → (page id : ℕ) → owner_in pages after page ≡ id → kernel_pages pages ≤ page → is_id id ≡ true → stands_in pages at id ≡ true → OwnerCase pages after page

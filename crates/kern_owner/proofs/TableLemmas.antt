@@ -41,7 +41,7 @@ bytes_agree f g a (suc n) agree =
 
 -- word k of an entry
 word_same : (pages : ℕ) (at after : ℕ → ℕ) → SameCoffers pages at after → (id addr k : ℕ) → 1 ≤ id → id ≤ 256 → k < 64 → addr ≡ coffer_entry pages id + 8 * k → after addr ≡ at addr
-word_same pages at after same id addr k low high lt is = same addr (omega arith) (omega arith)
+word_same pages at after same id addr k low high lt is = same addr (omega arith) (omega arith) (omega arith)
 
 stands_same : (pages : ℕ) (at after : ℕ → ℕ) → SameCoffers pages at after → (id : ℕ) → 1 ≤ id → id ≤ 256 → stands_in pages after id ≡ stands_in pages at id
 stands_same pages at after same id low high = ap is_there (word_same pages at after same id (coffer_state (coffer_entry pages id)) 0 low high (omega arith) (omega arith))
@@ -217,7 +217,7 @@ bucket_stays pages at after same bucket lt passes =
     let all = not-false (list_all (belongs pages at bucket) (chain_in pages at bucket) && none_twice (chain_in pages at bucket) && list_all (λ id. is_in_chain id (chain_in pages at bucket)) (filter (belongs pages at bucket) all_ids)) passes in
     let first = and_parts (list_all (belongs pages at bucket) (chain_in pages at bucket) && none_twice (chain_in pages at bucket)) (list_all (λ id. is_in_chain id (chain_in pages at bucket)) (filter (belongs pages at bucket) all_ids)) all in
     let members = and_parts (list_all (belongs pages at bucket) (chain_in pages at bucket)) (none_twice (chain_in pages at bucket)) first.0 in
-    let head = same (path_bucket pages bucket) (omega arith) (omega arith) in
+    let head = same (path_bucket pages bucket) (omega arith) (omega arith) (omega arith) in
     let chain : chain_in pages after bucket ≡ chain_in pages at bucket =
         ap (λ (id : ℕ). chain_from (next_in pages after) longest_chain id) head ∙ links_same pages at after same bucket longest_chain (at (path_bucket pages bucket)) members.0
     in

@@ -1,6 +1,6 @@
 -- What the kernel's tables say once pages have come to a coffer or gone back. `at` is what was read before, and `after`
 -- what is read then.
-use Rattle.std.specs.Prelude.{◌≡◌, ◌≢◌, ◌⊎◌, ℕ, ◌+◌, ◌<◌, ◌≤◌, List, ◌++◌, take, drop, filter, All, true, false, not, if◌then◌else◌}
+use Rattle.std.specs.Prelude.{◌≡◌, ◌≢◌, ◌⊎◌, ℕ, ◌+◌, ◌%◌, ◌<◌, ◌≤◌, List, ◌++◌, take, drop, filter, All, true, false, not, if◌then◌else◌}
 use Rattle.zo_layout.specs.Layout.{page_at, kernel_pages, owner_table, coffer_table, owner_word, coffer_entry, coffer_control, coffer_root}
 use Rattle.tr_types.specs.KernelTables.{owner_in, pages_owned, pages_free, is_id, stands_in, owner_fails, entry_fails, bucket_fails}
 use Rattle.tr_types.specs.Kernel.{read_after}
@@ -13,13 +13,13 @@ pub record IsOwnTable (pages : ℕ) : Type 0 where
   pub behind : (page : ℕ) → page_at (owner_table pages) ≤ owner_word pages page
   pub before : (page : ℕ) → page < pages → owner_word pages page + 8 ≤ page_at (coffer_table pages)
 
--- The kernel's tables read the same: owners, coffers and path buckets.
+-- The words of the kernel's tables read the same: owners, coffers and path buckets.
 abbrev pub SameTables : ℕ → (ℕ → ℕ) → (ℕ → ℕ) → Type 0
-SameTables pages at after = (addr : ℕ) → page_at (owner_table pages) ≤ addr → addr < page_at (kernel_pages pages) → after addr ≡ at addr
+SameTables pages at after = (addr : ℕ) → addr % 8 ≡ 0 → page_at (owner_table pages) ≤ addr → addr < page_at (kernel_pages pages) → after addr ≡ at addr
 
--- The coffers and the path buckets read the same.
+-- The words of the coffers and the path buckets read the same.
 abbrev pub SameCoffers : ℕ → (ℕ → ℕ) → (ℕ → ℕ) → Type 0
-SameCoffers pages at after = (addr : ℕ) → page_at (coffer_table pages) ≤ addr → addr < page_at (kernel_pages pages) → after addr ≡ at addr
+SameCoffers pages at after = (addr : ℕ) → addr % 8 ≡ 0 → page_at (coffer_table pages) ≤ addr → addr < page_at (kernel_pages pages) → after addr ≡ at addr
 
 -- The pages of a list have become the owner's, and nothing else in the tables has changed.
 pub record IsPassed (pages owner : ℕ) (list : List ℕ) (at after : ℕ → ℕ) : Type 0 where
