@@ -192,7 +192,7 @@ passed_hold pages owner list at after pass behind coffer stands passes page lt =
     by (inr isnt) = others_hold pages owner list at after pass page lt isnt (owner_case pages at page (passes page lt))
 
 -- every rule holds after, if each coffer that is there keeps its own two pages
-rules_hold : (pages owner : ℕ) (list : List ℕ) (at after : ℕ → ℕ) → IsPassed pages owner list at after → ((page : ℕ) → page < pages → is_among list page ≡ true → kernel_pages pages ≤ page)
+pub rules_hold : (pages owner : ℕ) (list : List ℕ) (at after : ℕ → ℕ) → IsPassed pages owner list at after → ((page : ℕ) → page < pages → is_among list page ≡ true → kernel_pages pages ≤ page)
     → ((id : ℕ) → 1 ≤ id → id ≤ 256 → stands_in pages at id ≡ true → (page : ℕ) → (page ≡ at (coffer_control (coffer_entry pages id))) ⊎ (page ≡ at (coffer_root (coffer_entry pages id))) → page < pages
         → owner_in pages at page ≡ id → owner_in pages after page ≡ id)
     → is_id owner ≡ true → stands_in pages at owner ≡ true → TablesPass pages at → TablesPass pages after
@@ -203,7 +203,7 @@ rules_hold pages owner list at after pass behind kept coffer stands passes = rec
 }
 
 -- a page that isn't among those keeps its owner
-others_kept : (pages owner : ℕ) (list : List ℕ) (at after : ℕ → ℕ) → IsPassed pages owner list at after → (page : ℕ) → page < pages → is_among list page ≡ false → owner_in pages after page ≡ owner_in pages at page
+pub others_kept : (pages owner : ℕ) (list : List ℕ) (at after : ℕ → ℕ) → IsPassed pages owner list at after → (page : ℕ) → page < pages → is_among list page ≡ false → owner_in pages after page ≡ owner_in pages at page
 others_kept pages owner list at after pass page lt isnt = pass.owners page lt ∙ ap (λ (b : Bool). cond b owner (owner_in pages at page)) isnt
 
 pub pass_keeps : (pages owner : ℕ) (list : List ℕ) (at after : ℕ → ℕ) → HasPassed pages owner list at after → All (λ page. page < pages) list → All (λ page. kernel_pages pages ≤ page) list

@@ -8,3 +8,5 @@ pub mod AmongLemmas
 pub mod LawLemmas
 -- the rules of coffers and path buckets
 pub mod TableLemmas
+-- a pair that is committed
+mod PendingLemmas
