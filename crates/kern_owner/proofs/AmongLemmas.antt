@@ -179,16 +179,16 @@ members a (suc n) (x ∷ xs) up within =
         ap (λ (ys : List ℕ). x ∷ ys) (tail_is tail_up (further xs within.1))
         ∙ ap (λ (y : ℕ). y ∷ filter (is_among xs) (range_with_len (a + 1) n)) (sym is)
         ∙ ap (λ (ys : List ℕ). a ∷ ys)
-            (filter_agree_in (is_among xs) (is_among (x ∷ xs)) (a + 1) n (λ i low high. sym (ap (λ (b : Bool). b || is_among xs i) (ne_eqb i x (λ e. omega arith)))))
+        (filter_agree_in (is_among xs) (is_among (x ∷ xs)) (a + 1) n (λ i low high. sym (ap (λ (b : Bool). b || is_among xs i) (ne_eqb i x (λ e. omega arith)))))
         ∙ sym (ap (λ (b : Bool). cond b (a ∷ filter (is_among (x ∷ xs)) (range_with_len (a + 1) n)) (filter (is_among (x ∷ xs)) (range_with_len (a + 1) n)))
-            (ap (λ (b : Bool). b || is_among xs a) (eq-eqb a x is)))
+        (ap (λ (b : Bool). b || is_among xs a) (eq-eqb a x is)))
     by (inr isnt) tail_is all_is =
         let first = up.0 in
         let last = within.0 in
         let above : a + 1 ≤ x = omega arith in
         all_is (above, up.1) (omega arith, further xs within.1)
         ∙ sym (ap (λ (b : Bool). cond b (a ∷ filter (is_among (x ∷ xs)) (range_with_len (a + 1) n)) (filter (is_among (x ∷ xs)) (range_with_len (a + 1) n)))
-            (past_low (a + 1) a (x ∷ xs) (above, up.1) (omega arith)))
+        (past_low (a + 1) a (x ∷ xs) (above, up.1) (omega arith)))
 
 pub in_order_is : (pages : ℕ) (list : List ℕ) → Ascends 0 list → All (λ x. x < pages) list → list ≡ in_order pages list
 in_order_is pages list up all = members 0 pages list up (further list (recursion_from_All (λ x. x < pages) list all))

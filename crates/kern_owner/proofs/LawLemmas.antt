@@ -58,10 +58,10 @@ own_after : (pages owner : ℕ) (list : List ℕ) (at after : ℕ → ℕ) → (
     → pages_owned pages after owner ≡ in_order pages (pages_owned pages at owner ++ list)
 own_after pages owner list at after owners =
     filter_agree_in (λ page. nat_eq (owner_in pages after page) owner) (is_among (pages_owned pages at owner ++ list)) 0 pages (λ page low high.
-        ap (λ (o : ℕ). nat_eq o owner) (owners page (omega arith))
-        ∙ by page (is_among list page)
-        ∙ sym (among_append (pages_owned pages at owner) list page
-            ∙ ap (λ (b : Bool). b || is_among list page) (among_kept (λ p. nat_eq (owner_in pages at p) owner) pages page (omega arith))))
+    ap (λ (o : ℕ). nat_eq o owner) (owners page (omega arith))
+    ∙ by page (is_among list page)
+    ∙ sym (among_append (pages_owned pages at owner) list page
+    ∙ ap (λ (b : Bool). b || is_among list page) (among_kept (λ p. nat_eq (owner_in pages at p) owner) pages page (omega arith))))
   where
     by : (page : ℕ) (b : Bool) → nat_eq (cond b owner (owner_in pages at page)) owner ≡ (nat_eq (owner_in pages at page) owner || b)
     by page true = eq-eqb owner owner refl ∙ sym (always (nat_eq (owner_in pages at page) owner))
@@ -80,7 +80,7 @@ left_after : (pages owner other : ℕ) (list : List ℕ) (at after : ℕ → ℕ
     → pages_owned pages after other ≡ filter (λ page. not (is_among list page)) (pages_owned pages at other)
 left_after pages owner other list at after differ owners =
     filter_agree_in (λ page. nat_eq (owner_in pages after page) other) (λ page. nat_eq (owner_in pages at page) other && not (is_among list page)) 0 pages
-        (λ page low high. ap (λ (o : ℕ). nat_eq o other) (owners page (omega arith)) ∙ by page (is_among list page))
+    (λ page low high. ap (λ (o : ℕ). nat_eq o other) (owners page (omega arith)) ∙ by page (is_among list page))
     ∙ sym (filter_twice (λ page. nat_eq (owner_in pages at page) other) (λ page. not (is_among list page)) (range_with_len 0 pages))
   where
     by : (page : ℕ) (b : Bool) → nat_eq (cond b owner (owner_in pages at page)) other ≡ (nat_eq (owner_in pages at page) other && not b)
@@ -115,7 +115,7 @@ grant_gives pages id count at after has some =
       own = own_after pages id (take count (pages_free pages at)) at after pass.owners;
       others = λ owner not_free not_id.
           filter_agree_in (λ page. nat_eq (owner_in pages after page) owner) (λ page. nat_eq (owner_in pages at page) owner) 0 pages
-              (λ page low high. ap (λ (o : ℕ). nat_eq o owner) (pass.owners page (omega arith)) ∙ kept owner not_free not_id page (cases_Bool (is_among (take count (pages_free pages at)) page)));
+          (λ page low high. ap (λ (o : ℕ). nat_eq o owner) (pass.owners page (omega arith)) ∙ kept owner not_free not_id page (cases_Bool (is_among (take count (pages_free pages at)) page)));
     }
   where
     kept : (owner : ℕ) → owner ≢ 0 → owner ≢ id → (page : ℕ)
@@ -194,7 +194,7 @@ passed_hold pages owner list at after pass behind coffer stands passes page lt =
 -- every rule holds after, if each coffer that is there keeps its own two pages
 pub rules_hold : (pages owner : ℕ) (list : List ℕ) (at after : ℕ → ℕ) → IsPassed pages owner list at after → ((page : ℕ) → page < pages → is_among list page ≡ true → kernel_pages pages ≤ page)
     → ((id : ℕ) → 1 ≤ id → id ≤ 256 → stands_in pages at id ≡ true → (page : ℕ) → (page ≡ at (coffer_control (coffer_entry pages id))) ⊎ (page ≡ at (coffer_root (coffer_entry pages id))) → page < pages
-        → owner_in pages at page ≡ id → owner_in pages after page ≡ id)
+    → owner_in pages at page ≡ id → owner_in pages after page ≡ id)
     → is_id owner ≡ true → stands_in pages at owner ≡ true → TablesPass pages at → TablesPass pages after
 rules_hold pages owner list at after pass behind kept coffer stands passes = record {
   owners = passed_hold pages owner list at after pass behind coffer stands passes.owners;
@@ -211,8 +211,8 @@ pub pass_keeps : (pages owner : ℕ) (list : List ℕ) (at after : ℕ → ℕ) 
     → is_id owner ≡ true → stands_in pages at owner ≡ true → TablesPass pages at → TablesPass pages after
 pass_keeps pages owner list at after has inside behind spares coffer stands passes =
     rules_hold pages owner list at after pass (λ page lt is. from_kernel pages list page behind is)
-        (λ id low high there page which lt is. by id low high there page which lt is (cases_Bool (is_among list page)) (cases_eq id owner))
-        coffer stands passes
+    (λ id low high there page which lt is. by id low high there page which lt is (cases_Bool (is_among list page)) (cases_eq id owner))
+    coffer stands passes
   where
     pass : IsPassed pages owner list at after
     pass = passed pages owner list at after has inside
@@ -230,8 +230,8 @@ pass_keeps pages owner list at after has inside behind spares coffer stands pass
 pub grant_keeps : (pages id count : ℕ) (at after : ℕ → ℕ) → HasGrant pages id count at after → is_id id ≡ true → stands_in pages at id ≡ true → TablesPass pages at → TablesPass pages after
 grant_keeps pages id count at after has coffer stands passes =
     rules_hold pages id (take count (pages_free pages at)) at after pass (λ page lt is. behind page is (owner_case pages at page (passes.owners page lt)))
-        (λ other low high there page which lt is. by other low page lt is (cases_Bool (is_among (take count (pages_free pages at)) page)))
-        coffer stands passes
+    (λ other low high there page which lt is. by other low page lt is (cases_Bool (is_among (take count (pages_free pages at)) page)))
+    coffer stands passes
   where
     pass : IsPassed pages id (take count (pages_free pages at)) at after
     pass = passed pages id (take count (pages_free pages at)) at after has (granted_within pages count at)
@@ -277,9 +277,9 @@ pub return_keeps_entries : (pages : ℕ) (list : List ℕ) (at after : ℕ → �
     → (id : ℕ) → 1 ≤ id → id ≤ 256 → (TakesRoot pages list at id → ⊥) → entry_fails pages at id ≡ false → entry_fails pages after id ≡ false
 return_keeps_entries pages list at after has inside id low high spares passes =
     entry_stays pages at after (returned pages list at after has inside).coffers id low high
-        (λ there page which lt is.
-            others_kept pages 0 list at after (returned pages list at after has inside) page lt (false_from_ne_true (is_among list page) (λ taken. spares (by there page which taken))) ∙ is)
-        passes
+    (λ there page which lt is.
+    others_kept pages 0 list at after (returned pages list at after has inside) page lt (false_from_ne_true (is_among list page) (λ taken. spares (by there page which taken))) ∙ is)
+    passes
   where
     by : stands_in pages at id ≡ true → (page : ℕ) → (page ≡ at (coffer_control (coffer_entry pages id))) ⊎ (page ≡ at (coffer_root (coffer_entry pages id))) → is_among list page ≡ true → TakesRoot pages list at id
     by there page (inl is) taken = record { there = there; taken = inl (ap (λ (p : ℕ). is_among list p) (sym is) ∙ taken) }

@@ -55,9 +55,9 @@ pair_with addr value words least = λ j. (address j, word j)
     address : (word_at (with_pair addr value words) (pair_address 0)).present ≡ addr
     address =
         ap (λ (w : Word). w.present) (
-            word_at_other committed_word (pair_address 0) 1 (store_at (pair_value 0) value (store_at (pair_address 0) addr words)) refl refl (λ e. omega arith)
-            ∙ word_at_other (pair_value 0) (pair_address 0) value (store_at (pair_address 0) addr words) refl refl (λ e. omega arith)
-            ∙ word_at_stored (pair_address 0) addr words (record { aligned = refl; inside = omega arith }))
+        word_at_other committed_word (pair_address 0) 1 (store_at (pair_value 0) value (store_at (pair_address 0) addr words)) refl refl (λ e. omega arith)
+        ∙ word_at_other (pair_value 0) (pair_address 0) value (store_at (pair_address 0) addr words) refl refl (λ e. omega arith)
+        ∙ word_at_stored (pair_address 0) addr words (record { aligned = refl; inside = omega arith }))
 
     inside : pair_value 0 / 8 < length (store_at (pair_address 0) addr words)
     inside = let size = length_store_at (pair_address 0) addr words in omega arith
@@ -65,8 +65,8 @@ pair_with addr value words least = λ j. (address j, word j)
     word : (word_at (with_pair addr value words) (pair_value 0)).present ≡ value
     word =
         ap (λ (w : Word). w.present) (
-            word_at_other committed_word (pair_value 0) 1 (store_at (pair_value 0) value (store_at (pair_address 0) addr words)) refl refl (λ e. omega arith)
-            ∙ word_at_stored (pair_value 0) value (store_at (pair_address 0) addr words) (record { aligned = refl; inside = inside }))
+        word_at_other committed_word (pair_value 0) 1 (store_at (pair_value 0) value (store_at (pair_address 0) addr words)) refl refl (λ e. omega arith)
+        ∙ word_at_stored (pair_value 0) value (store_at (pair_address 0) addr words) (record { aligned = refl; inside = inside }))
 
 committed_with : (addr value : ℕ) (words : List Word) → 64 ≤ length words / 512 → committed (with_pair addr value words) ≡ (addr, value) ∷ []
 committed_with addr value words least =
@@ -98,7 +98,7 @@ pending_is_sound pages page owner words size sound none lt behind free coffer st
     };
     spares = subst (λ (pairs : List (ℕ × ℕ)). All (λ p. (p.0 ≢ signature_word) × (p.0 ≢ version_word) × (p.0 ≢ count_word)) pairs) (sym (committed_with (owner_word pages page) owner words least))
         (All-cons (λ (p : ℕ × ℕ). (p.0 ≢ signature_word) × (p.0 ≢ version_word) × (p.0 ≢ count_word)) (owner_word pages page, owner) []
-            ((λ e. omega arith), (λ e. omega arith), (λ e. omega arith)) (All-nil (λ (p : ℕ × ℕ). (p.0 ≢ signature_word) × (p.0 ≢ version_word) × (p.0 ≢ count_word))));
+        ((λ e. omega arith), (λ e. omega arith), (λ e. omega arith)) (All-nil (λ (p : ℕ × ℕ). (p.0 ≢ signature_word) × (p.0 ≢ version_word) × (p.0 ≢ count_word))));
   };
   owners = subst (λ (n : ℕ). (p : ℕ) → p < n → owner_fails n (kernel_word (with_pair (owner_word pages page) owner words)) p ≡ false) (sym count_now) tables.owners;
   entries = subst (λ (n : ℕ). (id : ℕ) → 1 ≤ id → id ≤ 256 → entry_fails n (kernel_word (with_pair (owner_word pages page) owner words)) id ≡ false) (sym count_now) tables.entries;
@@ -153,6 +153,6 @@ pending_is_sound pages page owner words size sound none lt behind free coffer st
     tables : TablesPass pages (kernel_word (with_pair (owner_word pages page) owner words))
     tables =
         rules_hold pages owner (page ∷ []) (kernel_word words) (kernel_word (with_pair (owner_word pages page) owner words)) pass
-            (λ p inside is. let same = only p is in omega arith)
-            (λ id low high there p which inside is. kept id low p inside is (cases_eq p page))
-            coffer stands before
+        (λ p inside is. let same = only p is in omega arith)
+        (λ id low high there p which inside is. kept id low p inside is (cases_eq p page))
+        coffer stands before

@@ -62,7 +62,7 @@ below_rises test n m le =
 pub first_below : (test : ℕ → Bool) (n m most : ℕ) (list : List ℕ) → n ≤ m → list ≡ below test n → length list ≡ most → list ≡ take most (below test m)
 first_below test n m most list le is size =
     is ∙ sym (ap (λ (xs : List ℕ). take most xs) (below_split test n m le)
-        ∙ take_at (below test n) (filter test (range_with_len n (m - n))) most (sym (ap (λ (xs : List ℕ). length xs) is) ∙ size))
+    ∙ take_at (below test n) (filter test (range_with_len n (m - n))) most (sym (ap (λ (xs : List ℕ). length xs) is) ∙ size))
 
 -- one number more, where they are counted
 pub counted : (test : ℕ → Bool) (n count : ℕ) → count ≡ length (below test n) → test n ≡ true → count + 1 ≡ length (below test (n + 1))

@@ -53,8 +53,8 @@ path_same : (pages : ℕ) (at after : ℕ → ℕ) → SameCoffers pages at afte
 path_same pages at after same id low high =
     let size = length_same pages at after same id low high in
     let bytes : path_bytes pages after id ≡ path_bytes pages at id =
-        bytes_agree (λ i. to_le_bytes w64 (after (coffer_path_word (coffer_entry pages id) i))) (λ i. to_le_bytes w64 (at (coffer_path_word (coffer_entry pages id) i))) 0 55
-            (λ i from to. ap (λ (w : ℕ). to_le_bytes w64 w) (word_same pages at after same id (coffer_path_word (coffer_entry pages id) i) (9 + i) low high (omega arith) (omega arith)))
+    bytes_agree (λ i. to_le_bytes w64 (after (coffer_path_word (coffer_entry pages id) i))) (λ i. to_le_bytes w64 (at (coffer_path_word (coffer_entry pages id) i))) 0 55
+    (λ i from to. ap (λ (w : ℕ). to_le_bytes w64 w) (word_same pages at after same id (coffer_path_word (coffer_entry pages id) i) (9 + i) low high (omega arith) (omega arith)))
     in
     λ j. cond (nat_le (size j) 440) (take (size j) (bytes j)) []
 
@@ -79,12 +79,12 @@ path_fails_same pages at after same id low high =
 twice_same : (pages : ℕ) (at after : ℕ → ℕ) → SameCoffers pages at after → (id : ℕ) → 1 ≤ id → id ≤ 256 → path_stands_twice pages after id ≡ path_stands_twice pages at id
 twice_same pages at after same id low high =
     ap (λ (ids : List ℕ). list_any (λ other. not (nat_eq other id) && same_text (path_in pages after other) (path_in pages after id)) ids)
-        (all_ids_agree (stands_in pages after) (stands_in pages at) (stands_same pages at after same))
+    (all_ids_agree (stands_in pages after) (stands_in pages at) (stands_same pages at after same))
     ∙ any_ids_agree (λ other. not (nat_eq other id) && same_text (path_in pages after other) (path_in pages after id)) (λ other. not (nat_eq other id) && same_text (path_in pages at other) (path_in pages at id)) (stands_in pages at)
-        (λ other from to.
-            let theirs = path_same pages at after same other from to in
-            let its = path_same pages at after same id low high in
-            λ j. not (nat_eq other id) && same_text (theirs j) (its j))
+    (λ other from to.
+    let theirs = path_same pages at after same other from to in
+    let its = path_same pages at after same id low high in
+    λ j. not (nat_eq other id) && same_text (theirs j) (its j))
 
 -- The rule of an entry.
 
@@ -101,12 +101,12 @@ tested_anew first path kind pages twice root path_now pages_now twice_now passes
     let p2 = or_parts (first || path) kind p3.0 in
     let p1 = or_parts first path p2.0 in
     or_none (first || path_now || kind || pages_now || twice_now) root
-        (or_none (first || path_now || kind || pages_now) twice_now
-            (or_none (first || path_now || kind) pages_now
-                (or_none (first || path_now) kind (or_none first path_now p1.0 (path_is ∙ p1.1)) p2.1)
-                pages_pass)
-            (twice_is ∙ p4.1))
-        p5.1
+    (or_none (first || path_now || kind || pages_now) twice_now
+    (or_none (first || path_now || kind) pages_now
+    (or_none (first || path_now) kind (or_none first path_now p1.0 (path_is ∙ p1.1)) p2.1)
+    pages_pass)
+    (twice_is ∙ p4.1))
+    p5.1
 
 -- the coffer's two pages stay its own
 pages_pass : (pages : ℕ) (at after : ℕ → ℕ) (c : Coffer) → ((page : ℕ) → (page ≡ c.control) ⊎ (page ≡ c.root) → page < pages → owner_in pages at page ≡ c.id → owner_in pages after page ≡ c.id)
@@ -115,21 +115,21 @@ pages_pass pages at after c kept passes =
     let parts = or_parts (not (owns pages at c.id c.control && owns pages at c.id c.root)) (nat_eq c.control c.root) passes in
     let both = and_parts (owns pages at c.id c.control) (owns pages at c.id c.root) (not-false (owns pages at c.id c.control && owns pages at c.id c.root) parts.0) in
     or_none (not (owns pages after c.id c.control && owns pages after c.id c.root)) (nat_eq c.control c.root)
-        (ap not (and_from (owns pages after c.id c.control) (owns pages after c.id c.root) (still c.control (inl refl) both.0) (still c.root (inr refl) both.1)))
-        parts.1
+    (ap not (and_from (owns pages after c.id c.control) (owns pages after c.id c.root) (still c.control (inl refl) both.0) (still c.root (inr refl) both.1)))
+    parts.1
   where
     still : (page : ℕ) → (page ≡ c.control) ⊎ (page ≡ c.root) → owns pages at c.id page ≡ true → owns pages after c.id page ≡ true
     still page which owned =
         let parts = and_parts (nat_lt page pages) (nat_eq (owner_in pages at page) c.id) owned in
         and_from (nat_lt page pages) (nat_eq (owner_in pages after page) c.id) parts.0
-            (eq-eqb (owner_in pages after page) c.id (kept page which (ltb-true page pages parts.0) (eqb-true (owner_in pages at page) c.id parts.1)))
+        (eq-eqb (owner_in pages after page) c.id (kept page which (ltb-true page pages parts.0) (eqb-true (owner_in pages at page) c.id parts.1)))
 
 coffer_stays : (pages : ℕ) (at after : ℕ → ℕ) (c : Coffer) → path_fails pages after c.id ≡ path_fails pages at c.id → path_stands_twice pages after c.id ≡ path_stands_twice pages at c.id
     → pages_fail pages after c ≡ false → coffer_fails pages at c ≡ false → coffer_fails pages after c ≡ false
 coffer_stays pages at after c path twice its_pages passes =
     tested_anew (not (nat_le c.perm.uid 4294967295) || not (nat_le c.perm.gid 4294967295) || not (is_mode c.perm.mode)) (path_fails pages at c.id) (not (nat_eq c.kind 0))
-        (pages_fail pages at c) (path_stands_twice pages at c.id) (nat_eq c.id 1 && not (same_text c.path (codes "/")))
-        (path_fails pages after c.id) (pages_fail pages after c) (path_stands_twice pages after c.id) passes path its_pages twice
+    (pages_fail pages at c) (path_stands_twice pages at c.id) (nat_eq c.id 1 && not (same_text c.path (codes "/")))
+    (path_fails pages after c.id) (pages_fail pages after c) (path_stands_twice pages after c.id) passes path its_pages twice
 
 -- the pages of a coffer that breaks no rule pass
 pages_passed : (pages : ℕ) (at : ℕ → ℕ) (c : Coffer) → coffer_fails pages at c ≡ false → pages_fail pages at c ≡ false
@@ -157,7 +157,7 @@ entry_stays pages at after same id low high kept passes = reads ∙ by (cases_Bo
         let before = sym (ap (λ (b : Bool). cond b (coffer_fails pages at (coffer_in pages at id)) (not (nat_eq (at (coffer_state (coffer_entry pages id))) 0) || nat_eq id 1)) stands) ∙ passes in
         ap (λ (b : Bool). cond b (coffer_fails pages after (coffer_in pages at id)) (not (nat_eq (at (coffer_state (coffer_entry pages id))) 0) || nat_eq id 1)) stands
         ∙ coffer_stays pages at after (coffer_in pages at id) (path_fails_same pages at after same id low high) (twice_same pages at after same id low high)
-            (pages_pass pages at after (coffer_in pages at id) (kept stands) (pages_passed pages at (coffer_in pages at id) before)) before
+        (pages_pass pages at after (coffer_in pages at id) (kept stands) (pages_passed pages at (coffer_in pages at id) before)) before
     by (inr gone) =
         ap (λ (b : Bool). cond b (coffer_fails pages after (coffer_in pages at id)) (not (nat_eq (at (coffer_state (coffer_entry pages id))) 0) || nat_eq id 1)) gone
         ∙ sym (ap (λ (b : Bool). cond b (coffer_fails pages at (coffer_in pages at id)) (not (nat_eq (at (coffer_state (coffer_entry pages id))) 0) || nat_eq id 1)) gone)
@@ -187,7 +187,7 @@ members_same pages at after same bucket (id ∷ ids) all =
     let parts = and_parts (belongs pages at bucket id) (list_all (belongs pages at bucket) ids) all in
     let bounds = member_bounds pages at bucket id parts.0 in
     and_from (belongs pages after bucket id) (list_all (belongs pages after bucket) ids) (belongs_same pages at after same bucket id bounds.0 bounds.1 ∙ parts.0)
-        (members_same pages at after same bucket ids parts.1)
+    (members_same pages at after same bucket ids parts.1)
 
 -- a chain of members is the same
 abbrev next_in : ℕ → (ℕ → ℕ) → ℕ → ℕ
@@ -219,11 +219,11 @@ bucket_stays pages at after same bucket lt passes =
     let members = and_parts (list_all (belongs pages at bucket) (chain_in pages at bucket)) (none_twice (chain_in pages at bucket)) first.0 in
     let head = same (path_bucket pages bucket) (omega arith) (omega arith) (omega arith) in
     let chain : chain_in pages after bucket ≡ chain_in pages at bucket =
-        ap (λ (id : ℕ). chain_from (next_in pages after) longest_chain id) head ∙ links_same pages at after same bucket longest_chain (at (path_bucket pages bucket)) members.0
+    ap (λ (id : ℕ). chain_from (next_in pages after) longest_chain id) head ∙ links_same pages at after same bucket longest_chain (at (path_bucket pages bucket)) members.0
     in
     let wanted = all_ids_agree (belongs pages after bucket) (belongs pages at bucket) (belongs_same pages at after same bucket) in
     ap (λ (ids : List ℕ). not (list_all (belongs pages after bucket) ids && none_twice ids && list_all (λ id. is_in_chain id ids) (filter (belongs pages after bucket) all_ids))) chain
     ∙ ap (λ (ids : List ℕ). not (list_all (belongs pages after bucket) (chain_in pages at bucket) && none_twice (chain_in pages at bucket) && list_all (λ id. is_in_chain id (chain_in pages at bucket)) ids)) wanted
     ∙ ap not (and_from (list_all (belongs pages after bucket) (chain_in pages at bucket) && none_twice (chain_in pages at bucket)) (list_all (λ id. is_in_chain id (chain_in pages at bucket)) (filter (belongs pages at bucket) all_ids))
-        (and_from (list_all (belongs pages after bucket) (chain_in pages at bucket)) (none_twice (chain_in pages at bucket)) (members_same pages at after same bucket (chain_in pages at bucket) members.0) members.1)
-        first.1)
+    (and_from (list_all (belongs pages after bucket) (chain_in pages at bucket)) (none_twice (chain_in pages at bucket)) (members_same pages at after same bucket (chain_in pages at bucket) members.0) members.1)
+    first.1)

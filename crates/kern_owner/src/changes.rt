@@ -49,12 +49,7 @@ pub fn take_back(alloc: Global, words: &Words, pages: &[u32]) -> Result<Pairs, N
 }
 
 /// For each page of a list, the pair that makes it the owner's.
-fn owner_pairs(
-    alloc: Global,
-    words: &Words,
-    owner: u16,
-    list: &[u32],
-) -> Result<Pairs, NoMemory>
+fn owner_pairs(alloc: Global, words: &Words, owner: u16, list: &[u32]) -> Result<Pairs, NoMemory>
     requires inside { All (λ page. page < view.pages_of words.now) list.now }
     ensures { IfOk result (λ pairs. pairs ≡ spec.owner_pairs (view.pages_of words.now) owner list.now) }
 {

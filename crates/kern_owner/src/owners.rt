@@ -56,12 +56,7 @@ pub fn pages_of(alloc: Global, words: &Words, id: u16) -> Result<Vec<u32>, NoMem
 }
 
 /// The least pages of an owner, `most` of them where it has as many: it looks no further.
-pub fn first_pages(
-    alloc: Global,
-    words: &Words,
-    id: u16,
-    most: u32,
-) -> Result<Vec<u32>, NoMemory>
+pub fn first_pages(alloc: Global, words: &Words, id: u16, most: u32) -> Result<Vec<u32>, NoMemory>
     requires sound { IsSoundKernel words.now }
     ensures { IfOk result (λ list. list.items ≡ take most (kernel.coffer_pages words.now id)) }
 {

@@ -34,7 +34,9 @@ fn words_with_a_pair(alloc: Global) -> Result<Words, NoMemory>
 }
 
 #[test]
-fn pages_of_a_new_image_are_the_kernels_the_root_coffers_and_free(rt: HostRuntime) -> Result<(), Fail> {
+fn pages_of_a_new_image_are_the_kernels_the_root_coffers_and_free(
+    rt: HostRuntime,
+) -> Result<(), Fail> {
     let words = new_words(rt.alloc())?;
     assert_eq!(rt; owner(&words, 37), KERNEL);
     assert_eq!(rt; owner(&words, 38), ROOT);
@@ -56,7 +58,10 @@ fn a_grant_gives_the_least_free_pages(rt: HostRuntime) -> Result<(), Fail> {
     let words = new_words(rt.alloc())?;
     let given = grant(rt.alloc(), &words, 2, 3)?;
     assert_eq!(rt; given.pages.as_slice(), [40, 41, 42].as_slice());
-    assert_eq!(rt; given.pairs.as_slice(), [(16704, 2), (16712, 2), (16720, 2)].as_slice());
+    assert_eq!(rt;
+        given.pairs.as_slice(),
+        [(16704, 2), (16712, 2), (16720, 2)].as_slice()
+    );
     Ok(())
 }
 
@@ -64,7 +69,13 @@ fn a_grant_gives_the_least_free_pages(rt: HostRuntime) -> Result<(), Fail> {
 fn a_grant_of_more_than_are_free_says_how_many_there_are(rt: HostRuntime) -> Result<(), Fail> {
     let words = new_words(rt.alloc())?;
     let refused = grant(rt.alloc(), &words, 2, 25);
-    assert_eq!(rt; refused.err(), Some(OwnerFault::NoPages { asked: 25, free: 24 }));
+    assert_eq!(rt;
+        refused.err(),
+        Some(OwnerFault::NoPages {
+            asked: 25,
+            free: 24
+        })
+    );
     Ok(())
 }
 

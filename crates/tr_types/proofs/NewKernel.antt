@@ -54,7 +54,7 @@ later_word pages i le =
 first_entry : (pages : ℕ) (at : ℕ → ℕ) → IsNewTables pages at → (addr k : ℕ) → k < 64 → addr ≡ word_of (page_at (coffer_table pages)) k → at addr ≡ coffer_word pages k
 first_entry pages at new addr k lt is = ap at is ∙ new.entries k (omega arith)
 
-root_stands : (pages : ℕ) (at : ℕ → ℕ) → IsNewTables pages at → stands_in pages at 1 ≡ true
+pub root_stands : (pages : ℕ) (at : ℕ → ℕ) → IsNewTables pages at → stands_in pages at 1 ≡ true
 root_stands pages at new = ap is_there (first_entry pages at new (coffer_state (coffer_entry pages 1)) 0 (omega arith) (omega arith))
 
 no_other : (pages : ℕ) (at : ℕ → ℕ) → IsNewTables pages at → (id : ℕ) → 2 ≤ id → id ≤ 256 → at (coffer_state (coffer_entry pages id)) ≡ 0
@@ -245,7 +245,7 @@ abbrev in_page : ℕ → ℕ → Bool → Bool → Bool → Bool → Bool → �
 in_page pages i first journal owners coffers buckets owner =
     cond first (superblock_word pages i) (cond journal 0 (cond owners owner (cond coffers (coffer_word pages i) (cond buckets (bucket_word i) 0))))
 
-new_committed : (pages : ℕ) → 64 ≤ pages → pages ≤ 16384 → committed_count (all_durable (new_image pages)) ≡ 0
+pub new_committed : (pages : ℕ) → 64 ≤ pages → pages ≤ 16384 → committed_count (all_durable (new_image pages)) ≡ 0
 new_committed pages least most =
     present_new pages 1 0 committed_word least most (omega arith) (omega arith) refl
     ∙ ap (λ (b : Bool). in_page pages 0 false b (nat_lt 1 (coffer_table pages)) (nat_eq 1 (coffer_table pages)) (nat_eq 1 (bucket_page pages)) (owner_table_word pages (512 * (1 - owner_table pages) + 0)))
@@ -258,7 +258,7 @@ read_new : (pages : ℕ) → 64 ≤ pages → pages ≤ 16384 → (addr : ℕ) �
 read_new pages least most addr =
     ap (λ (pairs : List (ℕ × ℕ)). laid_over pairs addr (word_at (all_durable (new_image pages)) addr).present) (none_committed pages least most)
 
-new_tables : (pages : ℕ) → 64 ≤ pages → pages ≤ 16384 → IsNewTables pages (kernel_word (all_durable (new_image pages)))
+pub new_tables : (pages : ℕ) → 64 ≤ pages → pages ≤ 16384 → IsNewTables pages (kernel_word (all_durable (new_image pages)))
 new_tables pages least most = record {
   owners = λ page lt.
       read_new pages least most (owner_word pages page)

@@ -11,7 +11,7 @@ pub owner_pairs-requires : goal.owner_pairs-requires
 owner_pairs-requires c = record {
   inside = All-same (λ (page : ℕ). page < pages_of c.args.words.now) _ _ c.deref.ensures.value
       (All-permutation (λ (page : ℕ). page < pages_of c.args.words.now) _ _ c.in_ok-sort.ensures.permutation
-          (All-same (λ (page : ℕ). page < pages_of c.args.words.now) _ _ c.in_ok-list.ensures.items c.requires.inside));
+      (All-same (λ (page : ℕ). page < pages_of c.args.words.now) _ _ c.in_ok-list.ensures.items c.requires.inside));
 }
 
 pub returns : goal.returns

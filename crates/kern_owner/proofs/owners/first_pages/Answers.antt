@@ -12,29 +12,29 @@ returns-then-len-most c =
     let len = c.len.ensures in
     let here = c.if-len-most.true in
     first_below (λ page. nat_eq (kernel_owner c.args.words.now page) c.args.id) c.loop-page.page (pages_of c.args.words.now) c.args.most c.loop-page.list.items (omega arith)
-        c.loop-page.invariant.list (omega arith)
+    c.loop-page.invariant.list (omega arith)
 
 pub loop-page-preserved : goal.loop-page-preserved
 loop-page-preserved c =
     elim c.if-owner-id.branch [
       | then-owner-id+in_ok-push w ↦ record {
-          list = ap (λ (v : Vec ℕ Global). v.items) w.list-is ∙ gathered (λ page. nat_eq (kernel_owner c.args.words.now page) c.args.id) c.loop-page.page c.loop-page.list.items w.push.new.self.items c.loop-page.invariant.list
-              w.in_ok-push.ensures.items (eq-eqb _ c.args.id (sym c.owner.ensures ∙ w.if-owner-id.true));
-          most =
-              let most = c.loop-page.invariant.most in
-              let isnt = c.if-len-most.false in
-              let size = ap (λ (v : Vec ℕ Global). length v.items) w.list-is ∙ ap (λ (xs : List ℕ). length xs) w.in_ok-push.ensures.items ∙ length_push c.loop-page.list.items c.loop-page.page in
-              let len = c.len.ensures in
-              omega arith;
-        }
+        list = ap (λ (v : Vec ℕ Global). v.items) w.list-is ∙ gathered (λ page. nat_eq (kernel_owner c.args.words.now page) c.args.id) c.loop-page.page c.loop-page.list.items w.push.new.self.items c.loop-page.invariant.list
+            w.in_ok-push.ensures.items (eq-eqb _ c.args.id (sym c.owner.ensures ∙ w.if-owner-id.true));
+        most =
+            let most = c.loop-page.invariant.most in
+            let isnt = c.if-len-most.false in
+            let size = ap (λ (v : Vec ℕ Global). length v.items) w.list-is ∙ ap (λ (xs : List ℕ). length xs) w.in_ok-push.ensures.items ∙ length_push c.loop-page.list.items c.loop-page.page in
+            let len = c.len.ensures in
+            omega arith;
+      }
       | else-owner-id w ↦ record {
-          list = ap (λ (v : Vec ℕ Global). v.items) w.list-is ∙ gathered_not (λ page. nat_eq (kernel_owner c.args.words.now page) c.args.id) c.loop-page.page c.loop-page.list.items c.loop-page.invariant.list
-              (ne_eqb _ c.args.id (λ is. w.if-owner-id.false (c.owner.ensures ∙ is)));
-          most =
-              let most = c.loop-page.invariant.most in
-              let size = ap (λ (v : Vec ℕ Global). length v.items) w.list-is in
-              omega arith;
-        }
+        list = ap (λ (v : Vec ℕ Global). v.items) w.list-is ∙ gathered_not (λ page. nat_eq (kernel_owner c.args.words.now page) c.args.id) c.loop-page.page c.loop-page.list.items c.loop-page.invariant.list
+            (ne_eqb _ c.args.id (λ is. w.if-owner-id.false (c.owner.ensures ∙ is)));
+        most =
+            let most = c.loop-page.invariant.most in
+            let size = ap (λ (v : Vec ℕ Global). length v.items) w.list-is in
+            omega arith;
+      }
     ]
 
 pub returns : goal.returns

@@ -11,7 +11,7 @@ returns-then-free-most c =
     let count = c.loop-page.invariant.count in
     let here = c.if-free-most.true in
     let rises : _ ≤ length (spare_pages c.args.words.now) =
-        below_rises (λ page. nat_eq (kernel_owner c.args.words.now page) 0) c.loop-page.page (pages_of c.args.words.now) (omega arith)
+    below_rises (λ page. nat_eq (kernel_owner c.args.words.now page) 0) c.loop-page.page (pages_of c.args.words.now) (omega arith)
     in
     omega arith
 
@@ -19,13 +19,13 @@ pub loop-page-preserved : goal.loop-page-preserved
 loop-page-preserved c =
     elim c.if-owner-eq-NOBODY.branch [
       | then-owner-eq-NOBODY w ↦ record {
-          count = w.free-is ∙ counted (λ page. nat_eq (kernel_owner c.args.words.now page) 0) c.loop-page.page c.loop-page.free c.loop-page.invariant.count
-              (eq-eqb _ 0 (sym c.owner.ensures ∙ w.if-owner-eq-NOBODY.true));
-          most = let most = c.loop-page.invariant.most in let isnt = c.if-free-most.false in let is = w.free-is in omega arith;
-        }
+        count = w.free-is ∙ counted (λ page. nat_eq (kernel_owner c.args.words.now page) 0) c.loop-page.page c.loop-page.free c.loop-page.invariant.count
+            (eq-eqb _ 0 (sym c.owner.ensures ∙ w.if-owner-eq-NOBODY.true));
+        most = let most = c.loop-page.invariant.most in let isnt = c.if-free-most.false in let is = w.free-is in omega arith;
+      }
       | else-owner-eq-NOBODY w ↦ record {
-          count = w.free-is ∙ counted_not (λ page. nat_eq (kernel_owner c.args.words.now page) 0) c.loop-page.page c.loop-page.free c.loop-page.invariant.count
-              (ne_eqb _ 0 (λ is. w.if-owner-eq-NOBODY.false (c.owner.ensures ∙ is)));
-          most = let most = c.loop-page.invariant.most in let is = w.free-is in omega arith;
-        }
+        count = w.free-is ∙ counted_not (λ page. nat_eq (kernel_owner c.args.words.now page) 0) c.loop-page.page c.loop-page.free c.loop-page.invariant.count
+            (ne_eqb _ 0 (λ is. w.if-owner-eq-NOBODY.false (c.owner.ensures ∙ is)));
+        most = let most = c.loop-page.invariant.most in let is = w.free-is in omega arith;
+      }
     ]

@@ -14,7 +14,7 @@ overflow_cast-result c =
     let small = owner_fits (pages_of c.args.words.now) (kernel_word c.args.words.now) c.args.page (c.requires.sound.owners c.args.page c.requires.inside) in
     let count : c.pages.result ≡ pages_of c.args.words.now = omega arith in
     let is : c.kernel_word.result ≡ kernel_owner c.args.words.now c.args.page =
-        c.kernel_word.ensures ∙ ap (λ (addr : ℕ). kernel_word c.args.words.now addr) (c.owner_word.ensures ∙ ap (λ (n : ℕ). owner_word n c.args.page) count)
+    c.kernel_word.ensures ∙ ap (λ (addr : ℕ). kernel_word c.args.words.now addr) (c.owner_word.ensures ∙ ap (λ (n : ℕ). owner_word n c.args.page) count)
     in
     omega arith
 
