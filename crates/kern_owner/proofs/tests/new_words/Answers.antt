@@ -10,4 +10,4 @@ use Rattle.kern_owner.proofs.tests.new_words.Goals as goal
 pub returns-clause-sound : goal.returns-clause-sound
 returns-clause-sound c =
     IfOk-weaker c.new_image.result (λ (w : List Word). w ≡ all_durable (new_image 64)) (λ (w : List Word). IsSoundKernel w)
-        (λ w is. subst (λ (ws : List Word). IsSoundKernel ws) (sym is) (new_is_sound 64 (omega arith) (omega arith))) c.new_image.ensures.words
+    (λ w is. subst (λ (ws : List Word). IsSoundKernel ws) (sym is) (new_is_sound 64 (omega arith) (omega arith))) c.new_image.ensures.words
