@@ -1,0 +1,2 @@
+-- what the calls that read the coffer table answer
+pub mod Reading

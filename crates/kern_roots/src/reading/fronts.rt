@@ -1,0 +1,56 @@
+// The coffer of a path, looked for by the path's fronts of whole names.
+ghost use Rattle.std.specs.Prelude.{◌≡◌};
+
+use super::entry::{has_path, next_of, read};
+use pm_words::Words;
+use zo_layout::{bucket_of, path_bucket};
+
+/// The number of the root coffer, whose path is `/`.
+pub const ROOT: u16 = 1;
+
+/// More coffers than a bucket can have.
+const LONGEST_CHAIN: u16 = 257;
+
+/// A coffer whose path is the first `end` bytes of another path.
+#[derive(Clone, Copy, Debug)]
+pub struct Front {
+    pub id: u16,
+    pub end: usize,
+}
+
+/// The coffer with the longest path of those that the path begins with, by whole names, and that have
+/// paths of at most `most` bytes.
+pub fn longest_front(words: &Words, path: &[u8], most: usize) -> Front {
+    let mut end = most;
+    while end > 1 {
+        if let Some(id) = coffer_at_front(words, path, end) {
+            return Front { id, end };
+        }
+        end -= 1;
+    }
+    Front { id: ROOT, end: 1 }
+}
+
+// The coffer whose path is the first `end` bytes of a path, where a name ends there.
+fn coffer_at_front(words: &Words, path: &[u8], end: usize) -> Option<u16> {
+    if end < path.len() && path[end] != b'/' {
+        return None;
+    }
+    coffer_at(words, &path[..end])
+}
+
+/// The coffer that has just this path.
+pub fn coffer_at(words: &Words, path: &[u8]) -> Option<u16> {
+    let mut next = read(words, path_bucket(words.pages(), bucket_of(path)));
+    for _ in 0..LONGEST_CHAIN {
+        if next == 0 {
+            return None;
+        }
+        let id = next as u16;
+        if has_path(words, id, path) {
+            return Some(id);
+        }
+        next = next_of(words, id);
+    }
+    None
+}
