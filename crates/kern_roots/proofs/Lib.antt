@@ -1,1 +1,3 @@
 pub mod ReadingSound
+pub mod ReadingPieces
+pub mod ReadingPaths

@@ -6,7 +6,11 @@ use Rattle.std.proofs.lemmas.Nat.{and_le_r}
 use Rattle.zo_layout.specs.Layout.{coffer_entry, coffer_state, coffer_uid, coffer_gid, coffer_mode, coffer_control, coffer_root, coffer_path_length, coffer_kind}
 use Rattle.tr_types.specs.Paths.{same_text, is_path_text}
 use Rattle.tr_types.specs.KernelTables.{Coffer, coffer_in, coffer_fails, entry_fails, path_in, path_fails, path_length, path_stands_twice, pages_fail, owns, is_id, is_mode, stands_in}
-use Rattle.kern_roots.specs.Entries.{has_id}
+use Rattle.pm_words.specs.Word.{Word}
+use Rattle.tr_types.specs.KernelView.{pages_of}
+use Rattle.tr_types.specs.Journal.{kernel_word}
+use Rattle.tr_types.specs.KernelRules.{IsSoundKernel}
+use Rattle.kern_roots.specs.Entries.{has_id, has_coffer}
 
 -- What stands in the entry of a coffer that is there.
 pub record IsEntry (pages : ℕ) (at : ℕ → ℕ) (id : ℕ) : Type 0 where
@@ -92,3 +96,8 @@ root_is_there pages at passes = by (stands_in pages at 1) refl
         let none = sym (cond-false (stands_in pages at 1) (coffer_fails pages at (coffer_in pages at 1)) (not (nat_eq (at (coffer_state (coffer_entry pages 1))) 0) || true) is) ∙ passes in
         let late = or_right (not (nat_eq (at (coffer_state (coffer_entry pages 1))) 0)) true refl in
         cc
+
+pub sound_entry : (words : List Word) (id : ℕ) → IsSoundKernel words → has_coffer words id ≡ true → IsEntry (pages_of words) (kernel_word words) id
+sound_entry words id sound there =
+    let range = and_parts (nat_le 1 id) (nat_le id 256) (and_parts (is_id id) (stands_in (pages_of words) (kernel_word words) id) there).0 in
+    entry_is_sound (pages_of words) (kernel_word words) id (sound.entries id (leb-true 1 id range.0) (leb-true id 256 range.1)) there
