@@ -1,33 +1,46 @@
-use Rattle.std.proofs.Common.{rules, ◌≡◌, ◌<◌, ◌≤◌, ◌+◌, ◌*◌, ◌^◌, ◌/◌, ℕ, length, take, drop, true, nat_eq, IfOk, ◌-◌, ◌%◌, Bool, false, nat_lt, List, [], ◌∷◌, ◌++◌, slice_index_or, slice_set, bit_and, bit_or, Fits, w8, w32, Bor, MutBor}
-use Rattle.std.specs.Int.{w64, to_le_bytes}
+use Rattle.std.proofs.Common.{◌≡◌, ℕ, List, ◌≤◌, ◌<◌, ◌+◌, ◌*◌, length, take, drop, Bool, true, false, nat_eq, refl, sym, ap, ◌∙◌, arith}
 use Rattle.std.specs.List.{starts_with}
-use Rattle.zo_layout.specs.Layout as layout
-use Rattle.pm_words.specs.Memory.{IsAddress, HasPages}
-use Rattle.tr_types.specs.Paths.{same_text}
 use Rattle.tr_types.specs.KernelView.{pages_of}
-use Rattle.tr_types.specs.Journal as journal
-use Rattle.tr_types.specs.KernelTables.{is_id, path_length}
-use Rattle.tr_types.specs.KernelRules.{IsSoundKernel}
-use Rattle.kern_roots.specs.Reading.{root_of}
-use Rattle.kern_roots.specs.Entries as spec
+use Rattle.tr_types.specs.Journal.{kernel_word}
+use Rattle.tr_types.specs.KernelTables.{path_length}
+use Rattle.kern_roots.specs.Entries.{path_piece}
+use Rattle.kern_roots.proofs.ReadingPaths.{agree_more, agree_all, apart_here, apart_by_length}
 use Rattle.kern_roots.proofs.reading.entry.has_path.Goals as goal
 
--- src/reading/entry.rt:131:9
 pub returns-then-path_len-path : goal.returns-then-path_len-path
-returns-then-path_len-path c = ?
+returns-then-path_len-path c =
+    let len = c.path_len.ensures.len in
+    let most = c.path_len.ensures.most in
+    let differs = c.if-path_len-path.true in
+    sym (apart_by_length (pages_of c.args.words.now) (kernel_word c.args.words.now) c.args.id c.args.path.now (omega arith) (λ same. differs (len ∙ same)))
 
--- src/reading/entry.rt:133:5
-pub loop-i-init : goal.loop-i-init
-loop-i-init c = ?
-
--- src/reading/entry.rt:135:13
 pub returns-then-not-begins_with : goal.returns-then-not-begins_with
-returns-then-not-begins_with c = ?
+returns-then-not-begins_with c =
+    let len = c.path_len.ensures.len in
+    let most = c.path_len.ensures.most in
+    let same = c.if-path_len-path.false in
+    let within = c.pieces_of-i-end.ensures.most in
+    let test = c.loop-i-test.true in
+    let apart = ap (λ (xs : List ℕ). starts_with nat_eq c.path_piece.result xs) (sym c.piece_at.ensures.piece) ∙ sym c.begins_with.ensures ∙ c.if-not-begins_with.true in
+    let here = ap (λ (xs : List ℕ). starts_with nat_eq xs (take 8 (drop (8 * c.loop-i.i) c.args.path.now))) (sym c.path_piece.ensures) ∙ apart in
+    sym (apart_here (pages_of c.args.words.now) (kernel_word c.args.words.now) c.args.id c.args.path.now c.loop-i.i (omega arith) (sym same ∙ len) (omega arith) here)
 
--- src/reading/entry.rt:133:5
 pub loop-i-preserved : goal.loop-i-preserved
-loop-i-preserved c = ?
+loop-i-preserved c =
+    let len = c.path_len.ensures.len in
+    let most = c.path_len.ensures.most in
+    let same = c.if-path_len-path.false in
+    let within = c.pieces_of-i-end.ensures.most in
+    let test = c.loop-i-test.true in
+    let starts = ap (λ (xs : List ℕ). starts_with nat_eq c.path_piece.result xs) (sym c.piece_at.ensures.piece) ∙ sym c.begins_with.ensures ∙ c.if-not-begins_with.false in
+    let here = ap (λ (xs : List ℕ). starts_with nat_eq xs (take 8 (drop (8 * c.loop-i.i) c.args.path.now))) (sym c.path_piece.ensures) ∙ starts in
+    agree_more (pages_of c.args.words.now) (kernel_word c.args.words.now) c.args.id c.args.path.now c.loop-i.i (omega arith) (sym same ∙ len) (omega arith) c.loop-i.invariant here
 
--- src/reading/entry.rt:125:1
 pub returns : goal.returns
-returns c = ?
+returns c =
+    let len = c.path_len.ensures.len in
+    let most = c.path_len.ensures.most in
+    let same = c.if-path_len-path.false in
+    let cover = c.pieces_of-i-end.ensures.cover in
+    let end = c.loop-i-test.false in
+    sym (agree_all (pages_of c.args.words.now) (kernel_word c.args.words.now) c.args.id c.args.path.now c.loop-i.i (omega arith) (sym same ∙ len) (omega arith) c.loop-i.invariant)

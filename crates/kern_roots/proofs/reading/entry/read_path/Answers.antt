@@ -1,25 +1,31 @@
-use Rattle.std.proofs.Common.{rules, ◌≡◌, ◌<◌, ◌≤◌, ◌+◌, ◌*◌, ◌^◌, ◌/◌, ℕ, length, take, drop, true, nat_eq, IfOk, ◌-◌, ◌%◌, Bool, false, nat_lt, List, [], ◌∷◌, ◌++◌, slice_index_or, slice_set, bit_and, bit_or, Fits, w8, w32, Bor, MutBor}
-use Rattle.std.specs.Int.{w64, to_le_bytes}
-use Rattle.std.specs.List.{starts_with}
-use Rattle.zo_layout.specs.Layout as layout
-use Rattle.pm_words.specs.Memory.{IsAddress, HasPages}
-use Rattle.tr_types.specs.Paths.{same_text}
+use Rattle.std.proofs.Common.{◌≡◌, ℕ, List, ◌++◌, ◌≤◌, ◌<◌, ◌+◌, ◌*◌, take, refl, sym, ap, ◌∙◌, arith}
 use Rattle.tr_types.specs.KernelView.{pages_of}
-use Rattle.tr_types.specs.Journal as journal
-use Rattle.tr_types.specs.KernelTables.{is_id, path_length}
-use Rattle.tr_types.specs.KernelRules.{IsSoundKernel}
-use Rattle.kern_roots.specs.Reading.{root_of}
-use Rattle.kern_roots.specs.Entries as spec
+use Rattle.tr_types.specs.Journal.{kernel_word}
+use Rattle.tr_types.specs.KernelTables.{path_length}
+use Rattle.kern_roots.specs.Entries.{path_piece}
+use Rattle.kern_roots.proofs.ReadingPieces.{pieces, pieces_more}
+use Rattle.kern_roots.proofs.ReadingPaths.{path_read}
 use Rattle.kern_roots.proofs.reading.entry.read_path.Goals as goal
 
--- src/reading/entry.rt:117:5
-pub loop-i-init : goal.loop-i-init
-loop-i-init c = ?
-
--- src/reading/entry.rt:117:5
 pub loop-i-preserved : goal.loop-i-preserved
-loop-i-preserved c = ?
+loop-i-preserved c =
+    let f = path_piece (pages_of c.args.words.now) (kernel_word c.args.words.now) c.args.id in
+    c.in_ok-extend_from_slice.ensures.items
+    ∙ ap (λ (xs : List ℕ). xs ++ c.path_piece.result) c.loop-i.invariant
+    ∙ ap (λ (xs : List ℕ). pieces f c.loop-i.i ++ xs) c.path_piece.ensures
+    ∙ sym (pieces_more f c.loop-i.i)
 
--- src/reading/entry.rt:110:1
 pub returns : goal.returns
-returns c = ?
+returns c =
+    let pages = pages_of c.args.words.now in
+    let at = kernel_word c.args.words.now in
+    let len = c.path_len-len.ensures.len in
+    let most = c.path_len-len.ensures.most in
+    let cover = c.pieces_of-i-end.ensures.cover in
+    let within = c.pieces_of-i-end.ensures.most in
+    let end = c.loop-i-test.false in
+    let below = c.loop-i.auto.i-end in
+    c.truncate.ensures.items
+    ∙ ap (λ (xs : List ℕ). take c.path_len-len.result xs) c.loop-i.invariant
+    ∙ ap (λ (n : ℕ). take n (pieces (path_piece pages at c.args.id) c.loop-i.i)) len
+    ∙ path_read pages at c.args.id c.loop-i.i (omega arith) (omega arith) (omega arith)
