@@ -1,3 +1,5 @@
 pub mod ReadingSound
 pub mod ReadingPieces
 pub mod ReadingPaths
+pub mod ReadingLists
+pub mod ReadingCoffers
