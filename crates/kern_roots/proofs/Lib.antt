@@ -3,3 +3,5 @@ pub mod ReadingPieces
 pub mod ReadingPaths
 pub mod ReadingLists
 pub mod ReadingCoffers
+pub mod ReadingChains
+pub mod ReadingTexts

@@ -2,3 +2,5 @@
 pub mod Reading
 -- the entry of one coffer, as the kernel reads it
 pub mod Entries
+-- looking for the coffer of a path
+pub mod Fronts

@@ -1,5 +1,10 @@
 // The coffer of a path, looked for by the path's fronts of whole names.
-ghost use Rattle.std.specs.Prelude.{◌≡◌};
+ghost use Rattle.std.specs.Prelude.{◌≡◌, ◌≤◌, ◌<◌, length, take, true, Some};
+ghost use Rattle.tr_types.specs.Paths.{is_path_text};
+ghost use Rattle.tr_types.specs.Kernel.{coffers};
+ghost use Rattle.tr_types.specs.KernelRules.{IsSoundKernel};
+ghost use Rattle.kern_roots.specs.Entries as entries;
+ghost use Rattle.kern_roots.specs.Fronts as spec;
 
 use super::entry::{has_path, next_of, read};
 use pm_words::Words;
@@ -20,7 +25,16 @@ pub struct Front {
 
 /// The coffer with the longest path of those that the path begins with, by whole names, and that have
 /// paths of at most `most` bytes.
-pub fn longest_front(words: &Words, path: &[u8], most: usize) -> Front {
+pub fn longest_front(words: &Words, path: &[u8], most: usize) -> Front
+    requires sound { IsSoundKernel words.now }
+    requires path { is_path_text path.now ≡ true }
+    requires least { 1 ≤ most }
+    requires most { most ≤ length path.now }
+    ensures coffer { spec.coffer_within (coffers words.now) path.now most ≡ Some (entries.coffer_of words.now result.id) }
+    ensures front { entries.path_of words.now result.id ≡ take result.end path.now }
+    ensures end { result.end ≤ most }
+    ensures short { result.end ≤ 440 }
+{
     let mut end = most;
     while end > 1 {
         if let Some(id) = coffer_at_front(words, path, end) {
@@ -32,7 +46,12 @@ pub fn longest_front(words: &Words, path: &[u8], most: usize) -> Front {
 }
 
 // The coffer whose path is the first `end` bytes of a path, where a name ends there.
-fn coffer_at_front(words: &Words, path: &[u8], end: usize) -> Option<u16> {
+fn coffer_at_front(words: &Words, path: &[u8], end: usize) -> Option<u16>
+    requires sound { IsSoundKernel words.now }
+    requires least { 2 ≤ end }
+    requires most { end ≤ length path.now }
+    ensures { spec.IsCofferAtFront words.now path.now end result }
+{
     if end < path.len() && path[end] != b'/' {
         return None;
     }
@@ -40,9 +59,12 @@ fn coffer_at_front(words: &Words, path: &[u8], end: usize) -> Option<u16> {
 }
 
 /// The coffer that has just this path.
-pub fn coffer_at(words: &Words, path: &[u8]) -> Option<u16> {
+pub fn coffer_at(words: &Words, path: &[u8]) -> Option<u16>
+    requires sound { IsSoundKernel words.now }
+    ensures { spec.IsCofferAt words.now path.now result }
+{
     let mut next = read(words, path_bucket(words.pages(), bucket_of(path)));
-    for _ in 0..LONGEST_CHAIN {
+    for _step in 0..LONGEST_CHAIN {
         if next == 0 {
             return None;
         }
