@@ -5,3 +5,4 @@ pub mod ReadingLists
 pub mod ReadingCoffers
 pub mod ReadingChains
 pub mod ReadingTexts
+pub mod ReadingFronts
