@@ -6,3 +6,4 @@ pub mod ReadingCoffers
 pub mod ReadingChains
 pub mod ReadingTexts
 pub mod ReadingFronts
+pub mod ReadingChildren

@@ -171,3 +171,9 @@ within_above cs path two = ap longest (filter_agree (λ (c : Coffer). lies_under
         by : (b : Bool) → begins_with path c.path ≡ b → (b && not (same_text path c.path)) ≡ (b && nat_le (length c.path) (length path - 1))
         by true is = shorter c is
         by false is = refl
+
+-- what is at a front where a name ends
+pub tells_front : (words : List Word) (path : List ℕ) (end : ℕ) (found : Option ℕ) → 2 ≤ end → end ≤ length path → EndsAt path end → IsCofferAt words (take end path) found
+    → IsCofferAtFront words path end found
+tells_front words path end None two within ends none = missed_front words path end two none
+tells_front words path end (Some id) two within ends at = met_front words path end id within ends at

@@ -6,6 +6,7 @@ ghost use Rattle.tr_types.specs.KernelRules.{IsSoundKernel};
 ghost use Rattle.tr_types.specs.KernelTables.{Coffer};
 ghost use Rattle.tr_types.specs.PathMap.{coffer_of_path, coffer_with, children_of};
 ghost use Rattle.kern_roots.specs.Reading.{root_of, found_of, IsRefused};
+ghost use Rattle.kern_roots.specs.Fronts.{is_child_of};
 
 mod entry;
 mod fronts;
@@ -14,7 +15,7 @@ use crate::types::{Found, Root, RootsFault};
 use entry::{IDS, is_there, read_path, read_root};
 use fronts::{ROOT, longest_front};
 use pm_words::Words;
-use std::alloc::Global;
+use std::alloc::{AllocError, Global};
 use tr_types::Path;
 
 /// The coffer that a path lies in: the one with the longest path that the path begins with, by whole
@@ -68,17 +69,29 @@ pub fn children(alloc: Global, words: &Words, id: u16) -> Result<Vec<u16>, Roots
     if !is_there(words, id) {
         return Err(RootsFault::NoCoffer);
     }
+    let ids = list_children(alloc, words, id)?;
+    Ok(ids)
+}
+
+// The coffers that lie directly under the coffer `id`, the least number first.
+fn list_children(alloc: Global, words: &Words, id: u16) -> Result<Vec<u16>, AllocError>
+    requires sound { IsSoundKernel words.now }
+    ensures { IfOk result (λ ids. ids.items ≡ children_of (coffers words.now) id) }
+{
     let mut ids = Vec::new(alloc);
     for other in 1..=IDS {
         if is_child(alloc, words, other, id)? {
-            ids.push(other).map_err(|_| RootsFault::NoMemory)?;
+            ids.push(other)?;
         }
     }
     Ok(ids)
 }
 
 // Whether there is a coffer `other`, and it lies directly under the coffer `id`.
-fn is_child(alloc: Global, words: &Words, other: u16, id: u16) -> Result<bool, RootsFault> {
+fn is_child(alloc: Global, words: &Words, other: u16, id: u16) -> Result<bool, AllocError>
+    requires sound { IsSoundKernel words.now }
+    ensures { IfOk result (λ child. child ≡ is_child_of words.now other id) }
+{
     if other == ROOT || !is_there(words, other) {
         return Ok(false);
     }

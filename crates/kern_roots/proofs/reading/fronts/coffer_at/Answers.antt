@@ -34,16 +34,16 @@ loop-step-init c =
     let whole = c.pages.ensures.pages in
     let pages : c.pages.result ≡ pages_of c.args.words.now = omega arith in
     let first : c.read-next.result ≡ kernel_word c.args.words.now (path_bucket (pages_of c.args.words.now) (bucket_of c.args.path.now)) =
-        c.read-next.ensures ∙ ap (kernel_word words) (c.path_bucket.ensures ∙ ap (λ (p : ℕ). path_bucket p c.bucket_of.result) pages ∙ ap (path_bucket (pages_of words)) c.bucket_of.ensures) in
+    c.read-next.ensures ∙ ap (kernel_word words) (c.path_bucket.ensures ∙ ap (λ (p : ℕ). path_bucket p c.bucket_of.result) pages ∙ ap (path_bucket (pages_of words)) c.bucket_of.ensures) in
     subst (λ (next : ℕ). IsWalk (pages_of words) (kernel_word words) path 257 next) (sym first)
-      (walk_begins (pages_of words) (kernel_word words) path (bucket_at words path c.requires.sound))
+    (walk_begins (pages_of words) (kernel_word words) path (bucket_at words path c.requires.sound))
 
 pub returns-then-next-eq0 : goal.returns-then-next-eq0
 returns-then-next-eq0 c =
     let words = c.args.words.now in
     let path = c.args.path.now in
     chain_tells (pages_of words) (kernel_word words) path (bucket_at words path c.requires.sound)
-      (walk_ends (pages_of words) (kernel_word words) path (257 - c.loop-step._step) c.loop-step.next c.loop-step.invariant (inr c.if-next-eq0.true))
+    (walk_ends (pages_of words) (kernel_word words) path (257 - c.loop-step._step) c.loop-step.next c.loop-step.invariant (inr c.if-next-eq0.true))
 
 pub overflow_cast-id : goal.overflow_cast-id
 overflow_cast-id c =
@@ -63,8 +63,7 @@ pub returns-then-has_path : goal.returns-then-has_path
 returns-then-has_path c =
     let words = c.args.words.now in
     let walk = walking words c.args.path.now c.loop-step._step c.loop-step.next c.loop-step-test.true c.loop-step.invariant in
-    let same = sym c.has_path.ensures ∙ c.if-has_path.true in
-    (
+    let same = sym c.has_path.ensures ∙ c.if-has_path.true in (
       walk_at (pages_of words) (kernel_word words) c.args.path.now (257 - (c.loop-step._step + 1)) c.loop-step.next walk c.if-next-eq0.false,
       (bytes_eq-Decides (path_of words c.loop-step.next) c.args.path.now).0 same,
     )
@@ -82,7 +81,7 @@ loop-step-preserved c =
     let walk = walking words path c.loop-step._step c.loop-step.next c.loop-step-test.true c.loop-step.invariant in
     let differs = sym c.has_path.ensures ∙ c.if-has_path.false in
     subst (λ (next : ℕ). IsWalk (pages_of words) (kernel_word words) path (257 - (c.loop-step._step + 1)) next) (sym c.next_of-next.ensures)
-      (walk_goes_on (pages_of words) (kernel_word words) path (257 - (c.loop-step._step + 1)) c.loop-step.next walk c.if-next-eq0.false differs)
+    (walk_goes_on (pages_of words) (kernel_word words) path (257 - (c.loop-step._step + 1)) c.loop-step.next walk c.if-next-eq0.false differs)
 
 pub returns : goal.returns
 returns c =
@@ -90,4 +89,4 @@ returns c =
     let path = c.args.path.now in
     let end = c.loop-step-test.false in
     chain_tells (pages_of words) (kernel_word words) path (bucket_at words path c.requires.sound)
-      (walk_ends (pages_of words) (kernel_word words) path (257 - c.loop-step._step) c.loop-step.next c.loop-step.invariant (inl (omega arith)))
+    (walk_ends (pages_of words) (kernel_word words) path (257 - c.loop-step._step) c.loop-step.next c.loop-step.invariant (inl (omega arith)))
