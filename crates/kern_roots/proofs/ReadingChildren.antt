@@ -1,7 +1,7 @@
 -- What find and children make of the longest coffer of a path's fronts.
 use Rattle.std.proofs.Common.{◌≡◌, ◌≢◌, ◌⊎◌, inl, inr, ℕ, zero, suc, ◌+◌, ◌-◌, ◌<◌, ◌≤◌, Bool, true, false, not, List, [], ◌∷◌, ◌++◌, length, take, map, filter, Option, Some, None, refl, sym, ap, ◌∙◌, arith, cond}
-use Rattle.std.specs.Prelude.{nat_eq, ◌&&◌, option_map, codes}
-use Rattle.std.proofs.lemmas.Bool.{and_parts, and_left, and_right, cases_eq, eq-eqb, ne_eqb, not-true, false_from_ne_true}
+use Rattle.std.specs.Prelude.{nat_eq, nat_le, ◌&&◌, option_map, codes}
+use Rattle.std.proofs.lemmas.Bool.{and_from, le-leb, and_parts, and_left, and_right, cases_eq, eq-eqb, ne_eqb, not-true, false_from_ne_true}
 use Rattle.std.specs.List.{range_with_len}
 use Rattle.std.proofs.lemmas.List.{map-id, take_all, length-take-le, length-append}
 use Rattle.std.proofs.lemmas.List.FromFn.{filter_of_map_range_with_len_more}
@@ -11,7 +11,7 @@ use Rattle.tr_types.specs.Journal.{kernel_word}
 use Rattle.tr_types.specs.Paths.{same_text, is_path_text, begins_with, lies_under}
 use Rattle.tr_types.specs.Kernel.{coffers}
 use Rattle.tr_types.specs.KernelRules.{IsSoundKernel}
-use Rattle.tr_types.specs.KernelTables.{Coffer, stands_in, coffer_in}
+use Rattle.tr_types.specs.KernelTables.{Coffer, is_id, stands_in, coffer_in}
 use Rattle.tr_types.specs.PathMap.{longest, coffer_of_path, coffer_above, is_coffer, children_of}
 use Rattle.kern_roots.specs.declared.types.Found.{Found}
 use Rattle.kern_roots.specs.Reading.{found_of}
@@ -111,23 +111,37 @@ children_row words id start zero least most = refl
 children_row words id start (suc count) least most =
     by (stands_in (pages_of words) (kernel_word words) start) refl (is_coffer id (coffer_above (coffers words) (path_of words start))) refl (children_row words id (start + 1) count (omega arith) (omega arith))
   where
-    make : ℕ → Coffer
-    make = coffer_in (pages_of words) (kernel_word words)
-
-    want : Coffer → Bool
-    want c = is_coffer id (coffer_above (coffers words) c.path)
-
     rest : List ℕ
     rest = filter (stands_in (pages_of words) (kernel_word words)) (range_with_len (start + 1) count)
 
     kept : List ℕ
     kept = filter (λ k. is_child_of words k id) (range_with_len (start + 1) count)
 
+    further : List Coffer
+    further = filter (λ (c : Coffer). is_coffer id (coffer_above (coffers words) c.path)) (listed (coffer_in (pages_of words) (kernel_word words)) (stands_in (pages_of words) (kernel_word words)) (start + 1) count)
+
+    in_range : is_id start ≡ true
+    in_range = and_from (nat_le 1 start) (nat_le start 256) (le-leb 1 start least) (le-leb start 256 (omega arith))
+
+    child : (b d : Bool) → stands_in (pages_of words) (kernel_word words) start ≡ b → is_coffer id (coffer_above (coffers words) (path_of words start)) ≡ d → is_child_of words start id ≡ (b && d)
+    child b d is wanted =
+        ap (λ (x : Bool). (x && stands_in (pages_of words) (kernel_word words) start) && is_coffer id (coffer_above (coffers words) (path_of words start))) in_range
+        ∙ ap (λ (x : Bool). x && is_coffer id (coffer_above (coffers words) (path_of words start))) is
+        ∙ ap (λ (x : Bool). b && x) wanted
+
+    head : (d : Bool) → map (λ (c : Coffer). c.id) further ≡ kept → map (λ (c : Coffer). c.id) (cond d (coffer_in (pages_of words) (kernel_word words) start ∷ further) further) ≡ cond d (start ∷ kept) kept
+    head true later = ap (λ (xs : List ℕ). start ∷ xs) later
+    head false later = later
+
     by : (b : Bool) → stands_in (pages_of words) (kernel_word words) start ≡ b → (d : Bool) → is_coffer id (coffer_above (coffers words) (path_of words start)) ≡ d
-        → map (λ (c : Coffer). c.id) (filter (λ (c : Coffer). is_coffer id (coffer_above (coffers words) c.path)) (listed (coffer_in (pages_of words) (kernel_word words)) (stands_in (pages_of words) (kernel_word words)) (start + 1) count)) ≡ kept
+        → map (λ (c : Coffer). c.id) further ≡ kept
         → map (λ (c : Coffer). c.id) (filter (λ (c : Coffer). is_coffer id (coffer_above (coffers words) c.path)) (map (coffer_in (pages_of words) (kernel_word words)) (cond b (start ∷ rest) rest)))
         ≡ cond (is_child_of words start id) (start ∷ kept) kept
-    by b is d wanted later = ?
+    by true is d wanted later =
+        ap (λ (x : Bool). map (λ (c : Coffer). c.id) (cond x (coffer_in (pages_of words) (kernel_word words) start ∷ further) further)) wanted
+        ∙ head d later
+        ∙ sym (ap (λ (x : Bool). cond x (start ∷ kept) kept) (child true d is wanted))
+    by false is d wanted later = later ∙ sym (ap (λ (x : Bool). cond x (start ∷ kept) kept) (child false d is wanted))
 
 pub children_are : (words : List Word) (id : ℕ) → filter (λ k. is_child_of words k id) (range_with_len 1 256) ≡ children_of (coffers words) id
 children_are words id =
