@@ -1,11 +1,11 @@
 -- A path bucket's chain has each coffer whose path belongs to it, so that a path that isn't met there is no coffer's.
-use Rattle.std.proofs.Common.{◌≡◌, ◌≢◌, ◌⊎◌, inl, inr, ℕ, zero, suc, ◌+◌, ◌-◌, ◌<◌, ◌≤◌, Bool, true, false, cond, not, List, [], ◌∷◌, length, filter, Option, Some, None, refl, sym, ap, ◌∙◌, arith}
-use Rattle.std.specs.Prelude.{nat_eq, ◌&&◌, ◌||◌, find}
+use Rattle.std.proofs.Common.{◌≡◌, ◌≢◌, ◌⊎◌, inl, inr, ℕ, zero, suc, ◌+◌, Bool, true, false, cond, not, List, [], ◌∷◌, filter, Some, None, refl, sym, ap, ◌∙◌, arith}
+use Rattle.std.specs.Prelude.{nat_eq, ◌&&◌, find}
 use Rattle.std.specs.List.{range_with_len, list_all, list_any}
-use Rattle.std.proofs.lemmas.Bool.{and_parts, and_from, or_parts, or_cases, not-false, not_from_false, cases_eq, cond-true, cond-false, eqb-true, eqb-false, eq-eqb, ne_eqb}
+use Rattle.std.proofs.lemmas.Bool.{and_parts, and_from, or_parts, or_cases, not-false, cases_eq, cond-true, cond-false, eqb-true, eq-eqb, ne_eqb}
 use Rattle.zo_layout.specs.Layout.{bucket_of, coffer_entry, coffer_next, path_bucket}
 use Rattle.tr_types.specs.Paths.{same_text}
-use Rattle.tr_types.specs.KernelTables.{all_ids, is_id, stands_in, path_in, ids_in, path_stands_twice, chain_from, chain_in, longest_chain, is_in_chain, none_twice, belongs, bucket_fails}
+use Rattle.tr_types.specs.KernelTables.{all_ids, is_id, stands_in, path_in, path_stands_twice, chain_from, chain_in, longest_chain, is_in_chain, none_twice, belongs, bucket_fails}
 use Rattle.kern_roots.specs.Entries.{has_id}
 use Rattle.kern_roots.proofs.ReadingLists.{IsListed}
 use Rattle.kern_roots.proofs.ReadingPaths.{same_when}

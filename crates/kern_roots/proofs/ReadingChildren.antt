@@ -1,6 +1,6 @@
 -- What find and children make of the longest coffer of a path's fronts.
-use Rattle.std.proofs.Common.{◌≡◌, ◌≢◌, ◌⊎◌, inl, inr, ℕ, zero, suc, ◌+◌, ◌-◌, ◌<◌, ◌≤◌, Bool, true, false, not, List, [], ◌∷◌, ◌++◌, length, take, map, filter, Option, Some, None, refl, sym, ap, ◌∙◌, arith, cond}
-use Rattle.std.specs.Prelude.{nat_eq, nat_le, ◌&&◌, option_map, codes}
+use Rattle.std.proofs.Common.{◌≡◌, ◌⊎◌, inl, inr, ℕ, zero, suc, ◌+◌, ◌-◌, ◌≤◌, Bool, true, false, not, List, [], ◌∷◌, ◌++◌, length, take, map, filter, Option, Some, None, refl, sym, ap, ◌∙◌, arith, cond}
+use Rattle.std.specs.Prelude.{nat_eq, nat_le, ◌&&◌, option_map}
 use Rattle.std.proofs.lemmas.Bool.{and_from, le-leb, and_parts, and_left, and_right, cases_eq, eq-eqb, ne_eqb, not-true, false_from_ne_true}
 use Rattle.std.specs.List.{range_with_len}
 use Rattle.std.proofs.lemmas.List.{map-id, take_all, length-take-le, length-append}
@@ -13,13 +13,12 @@ use Rattle.tr_types.specs.Kernel.{coffers}
 use Rattle.tr_types.specs.KernelRules.{IsSoundKernel}
 use Rattle.tr_types.specs.KernelTables.{Coffer, is_id, stands_in, coffer_in}
 use Rattle.tr_types.specs.PathMap.{longest, coffer_of_path, coffer_above, is_coffer, children_of}
-use Rattle.kern_roots.specs.declared.types.Found.{Found}
 use Rattle.kern_roots.specs.Reading.{found_of}
 use Rattle.kern_roots.specs.Entries.{has_coffer, path_of, coffer_of}
 use Rattle.kern_roots.specs.Fronts.{coffer_within, is_child_of}
 use Rattle.kern_roots.proofs.ReadingSound.{sound_entry}
 use Rattle.kern_roots.proofs.ReadingPaths.{same_when, differ_when}
-use Rattle.kern_roots.proofs.ReadingLists.{listed, IsListed, longest_none}
+use Rattle.kern_roots.proofs.ReadingLists.{listed, longest_none}
 use Rattle.kern_roots.proofs.ReadingCoffers.{coffers_listed, listed_has}
 use Rattle.kern_roots.proofs.ReadingChains.{path_is_its}
 use Rattle.kern_roots.proofs.ReadingTexts.{slash, Begins, Whole, GoesOn, FromRoot, begins_how, path_size}

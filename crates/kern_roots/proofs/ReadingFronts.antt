@@ -1,7 +1,7 @@
 -- The longest coffer of a path's fronts is the coffer of the path.
-use Rattle.std.proofs.Common.{◌≡◌, ◌≢◌, ◌⊎◌, inl, inr, ℕ, zero, suc, ◌+◌, ◌-◌, ◌<◌, ◌≤◌, Bool, true, false, not, cond, List, [], ◌∷◌, length, take, filter, get_or, Option, Some, None, refl, sym, ap, ◌∙◌, arith}
-use Rattle.std.specs.Prelude.{fold, nat_eq, nat_le, ◌&&◌, codes}
-use Rattle.std.proofs.lemmas.Bool.{and_parts, and_from, and_cases, and_left, and_right, cases_eq, cases_lt, cases_Bool, le-leb, lt-leb, leb-true, false_from_ne_true, not_from_false}
+use Rattle.std.proofs.Common.{◌≡◌, ◌⊎◌, inl, inr, ℕ, ◌-◌, ◌<◌, ◌≤◌, Bool, true, false, not, List, ◌∷◌, length, take, filter, get_or, Option, Some, None, refl, sym, ap, ◌∙◌, arith}
+use Rattle.std.specs.Prelude.{nat_le, ◌&&◌, codes}
+use Rattle.std.proofs.lemmas.Bool.{and_parts, and_from, cases_lt, le-leb, lt-leb, leb-true, not_from_false}
 use Rattle.std.proofs.lemmas.List.{length-take-le, length-append}
 use Rattle.std.proofs.lemmas.List.Elements.{filter_agree}
 use Rattle.std.proofs.lemmas.Slice.Eq.{bytes_eq-Decides}
@@ -11,16 +11,16 @@ use Rattle.tr_types.specs.Journal.{kernel_word}
 use Rattle.tr_types.specs.Paths.{same_text, is_path_text, begins_with, lies_under}
 use Rattle.tr_types.specs.Kernel.{coffers}
 use Rattle.tr_types.specs.KernelRules.{IsSoundKernel}
-use Rattle.tr_types.specs.KernelTables.{Coffer, all_ids, stands_in, path_in, coffer_in, coffers_in, path_stands_twice}
+use Rattle.tr_types.specs.KernelTables.{Coffer, stands_in, coffer_in}
 use Rattle.tr_types.specs.PathMap.{longest, coffer_of_path, coffer_above}
-use Rattle.kern_roots.specs.Entries.{has_id, has_coffer, path_of, coffer_of}
+use Rattle.kern_roots.specs.Entries.{has_coffer, path_of, coffer_of}
 use Rattle.kern_roots.specs.Fronts.{IsCofferAt, IsCofferAtFront, coffer_within}
-use Rattle.kern_roots.proofs.ReadingSound.{IsEntry, sound_entry, root_is_there}
+use Rattle.kern_roots.proofs.ReadingSound.{sound_entry, root_is_there}
 use Rattle.kern_roots.proofs.ReadingPaths.{same_when, differ_when}
-use Rattle.kern_roots.proofs.ReadingLists.{IsListed, longest_listed, longest_first, longest_none}
+use Rattle.kern_roots.proofs.ReadingLists.{IsListed, longest_listed, longest_first}
 use Rattle.kern_roots.proofs.ReadingCoffers.{coffers_listed, has_listed, listed_has}
 use Rattle.kern_roots.proofs.ReadingChains.{path_is_its}
-use Rattle.kern_roots.proofs.ReadingTexts.{slash, Begins, Whole, GoesOn, FromRoot, begins_how, begins_so, begins_length, EndsAt, front_begins, begins_front, path_size, path_starts}
+use Rattle.kern_roots.proofs.ReadingTexts.{slash, Begins, Whole, GoesOn, FromRoot, begins_how, begins_so, begins_length, EndsAt, front_begins, begins_front, path_size}
 
 -- The coffers that are looked for: the path begins with theirs, and they have at most so many bytes.
 abbrev pub is_within : List ℕ → ℕ → Coffer → Bool

@@ -1,14 +1,14 @@
 -- The path of a coffer's entry, piece by piece, and its comparison with another.
-use Rattle.std.proofs.Common.{◌≡◌, ◌⊎◌, inl, inr, ℕ, zero, suc, ◌+◌, ◌-◌, ◌*◌, ◌/◌, ◌<◌, ◌≤◌, min, Bool, true, false, List, [], ◌∷◌, ◌++◌, length, take, drop, refl, sym, ap, ◌∙◌, arith, cond}
+use Rattle.std.proofs.Common.{◌≡◌, ◌⊎◌, inl, inr, ℕ, ◌+◌, ◌-◌, ◌*◌, ◌<◌, ◌≤◌, min, true, false, List, ◌++◌, length, take, drop, refl, sym, ap, ◌∙◌, arith}
 use Rattle.std.specs.Prelude.{nat_eq, nat_le}
-use Rattle.std.specs.List.{range_with_len, flat_map, starts_with}
+use Rattle.std.specs.List.{starts_with}
 use Rattle.std.proofs.lemmas.Bool.{cases_lt, cond-true, le-leb, false_from_ne_true}
 use Rattle.std.proofs.lemmas.List.{length-take, length-take-le, length-drop, take-take, take_all, drop-take}
 use Rattle.std.proofs.lemmas.Slice.Eq.{bytes_eq-Decides}
 use Rattle.tr_types.specs.Paths.{same_text}
 use Rattle.tr_types.specs.KernelTables.{path_in, path_length}
 use Rattle.kern_roots.specs.Entries.{path_piece}
-use Rattle.kern_roots.proofs.ReadingPieces.{pieces, AreEights, length_pieces, take_pieces, piece_at, take_add, front_of_pieces}
+use Rattle.kern_roots.proofs.ReadingPieces.{pieces, AreEights, length_pieces, piece_at, take_add, front_of_pieces}
 
 pub same_when : (xs ys : List ℕ) → xs ≡ ys → same_text xs ys ≡ true
 same_when xs ys is = (bytes_eq-Decides xs ys).1 is

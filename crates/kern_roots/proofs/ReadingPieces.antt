@@ -1,10 +1,10 @@
 -- A text that stands in pieces of eight bytes.
-use Rattle.std.proofs.Common.{◌≡◌, ◌⊎◌, inl, inr, ℕ, zero, suc, ◌+◌, ◌-◌, ◌*◌, ◌/◌, ◌<◌, ◌≤◌, min, List, [], ◌∷◌, ◌++◌, length, take, drop, map, refl, sym, ap, ◌∙◌, arith}
+use Rattle.std.proofs.Common.{◌≡◌, ◌⊎◌, inl, inr, ℕ, zero, suc, ◌+◌, ◌*◌, ◌<◌, ◌≤◌, List, [], ◌∷◌, ◌++◌, length, take, drop, refl, sym, ap, ◌∙◌, arith}
 use Rattle.std.specs.List.{range_with_len, flat_map}
-use Rattle.std.proofs.lemmas.List.{map-id, length-append, length-take, length-drop, take-take, take_at, take_all, take-append-le, take-append-drop, drop_at, drop-take, drop-drop, append_assoc, append-nil}
+use Rattle.std.proofs.lemmas.List.{map-id, length-append, take-take, take_all, take-append-le, take-append-drop, drop_at, drop-take, append-nil}
 use Rattle.std.proofs.lemmas.Bool.{cases_eq}
 use Rattle.std.proofs.lemmas.List.Concat.{flat_map-append}
-use Rattle.std.proofs.lemmas.List.FromFn.{map-range_with_len_more, length-range_with_len}
+use Rattle.std.proofs.lemmas.List.FromFn.{map-range_with_len_more}
 
 abbrev pub pieces : (ℕ → List ℕ) → ℕ → List ℕ
 pieces f n = flat_map f (range_with_len 0 n)

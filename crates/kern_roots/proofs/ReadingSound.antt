@@ -1,11 +1,11 @@
 -- What the rule of the coffer table gives of the entry of a coffer that is there.
-use Rattle.std.proofs.Common.{◌≡◌, ◌⊎◌, inl, inr, ℕ, ◌+◌, ◌*◌, ◌/◌, ◌%◌, ◌^◌, ◌<◌, ◌≤◌, Bool, true, false, cond, not, List, length, refl, sym, ap, ◌∙◌, arith, eqb, ltb}
-use Rattle.std.specs.Prelude.{◌&&◌, ◌||◌, nat_lt, nat_le, nat_eq, All, bit_and, codes}
-use Rattle.std.proofs.lemmas.Bool.{cases_eq, cases_lt, cases_Bool, false_from_ne_true, ltb-true, leb-true, eqb-true, eq-eqb, not-false, not-true, or_cases, or_parts, or_right, and_parts, cond-true, cond-false}
+use Rattle.std.proofs.Common.{◌≡◌, ◌⊎◌, inl, inr, ℕ, ◌<◌, ◌≤◌, Bool, true, false, not, List, refl, sym, ◌∙◌, arith}
+use Rattle.std.specs.Prelude.{◌&&◌, ◌||◌, nat_lt, nat_le, nat_eq, bit_and, codes}
+use Rattle.std.proofs.lemmas.Bool.{ltb-true, leb-true, eqb-true, eq-eqb, not-false, or_cases, or_parts, or_right, and_parts, cond-true, cond-false}
 use Rattle.std.proofs.lemmas.Nat.{and_le_r}
-use Rattle.zo_layout.specs.Layout.{coffer_entry, coffer_state, coffer_uid, coffer_gid, coffer_mode, coffer_control, coffer_root, coffer_path_length, coffer_kind}
+use Rattle.zo_layout.specs.Layout.{coffer_entry, coffer_state, coffer_uid, coffer_gid, coffer_mode, coffer_control, coffer_root, coffer_kind}
 use Rattle.tr_types.specs.Paths.{same_text, is_path_text}
-use Rattle.tr_types.specs.KernelTables.{Coffer, coffer_in, coffer_fails, entry_fails, path_in, path_fails, path_length, path_stands_twice, pages_fail, owns, is_id, is_mode, stands_in}
+use Rattle.tr_types.specs.KernelTables.{coffer_in, coffer_fails, entry_fails, path_in, path_fails, path_length, path_stands_twice, pages_fail, owns, is_id, is_mode, stands_in}
 use Rattle.pm_words.specs.Word.{Word}
 use Rattle.tr_types.specs.KernelView.{pages_of}
 use Rattle.tr_types.specs.Journal.{kernel_word}

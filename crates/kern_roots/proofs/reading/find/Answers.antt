@@ -1,10 +1,9 @@
-use Rattle.std.proofs.Common.{◌≡◌, ℕ, List, length, Option, Some, ap, ◌∙◌, sym, subst}
-use Rattle.std.specs.Prelude.{nat_eq, option_map}
+use Rattle.std.proofs.Common.{ℕ, List, ap, ◌∙◌, sym}
+use Rattle.std.specs.Prelude.{option_map}
 use Rattle.tr_types.specs.Kernel.{coffers}
 use Rattle.tr_types.specs.PathMap.{coffer_of_path}
 use Rattle.tr_types.specs.Paths.{is_path_text}
 use Rattle.kern_roots.specs.Reading.{found_of}
-use Rattle.kern_roots.specs.declared.types.Found.{Found}
 use Rattle.kern_roots.proofs.ReadingChildren.{found_is}
 use Rattle.kern_roots.proofs.reading.find.Goals as goal
 

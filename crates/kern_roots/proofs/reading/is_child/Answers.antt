@@ -1,8 +1,6 @@
-use Rattle.std.proofs.Common.{◌≡◌, ℕ, ◌-◌, ◌≤◌, List, length, Bool, true, false, Option, Some, refl, sym, ap, subst, ◌∙◌, arith}
+use Rattle.std.proofs.Common.{◌≡◌, ℕ, ◌-◌, List, length, sym, ap, ◌∙◌, arith}
 use Rattle.tr_types.specs.Kernel.{coffers}
-use Rattle.tr_types.specs.KernelTables.{Coffer}
 use Rattle.tr_types.specs.Paths.{is_path_text}
-use Rattle.kern_roots.specs.Entries.{has_coffer, path_of, coffer_of}
 use Rattle.kern_roots.specs.Fronts.{coffer_within, is_child_of}
 use Rattle.kern_roots.proofs.ReadingSound.{sound_entry}
 use Rattle.kern_roots.proofs.ReadingChildren.{other_path, root_is_no_child, missing_is_no_child, child_is}

@@ -1,4 +1,4 @@
-use Rattle.std.proofs.Common.{◌≡◌, ℕ, ◌-◌, filter}
+use Rattle.std.proofs.Common.{◌≡◌, ◌-◌, filter}
 use Rattle.std.specs.List.{range_with_len}
 use Rattle.kern_roots.specs.Fronts.{is_child_of}
 use Rattle.kern_roots.proofs.reading.list_children.Given as goal

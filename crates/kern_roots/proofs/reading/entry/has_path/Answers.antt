@@ -1,9 +1,7 @@
-use Rattle.std.proofs.Common.{◌≡◌, ℕ, List, ◌≤◌, ◌<◌, ◌+◌, ◌*◌, length, take, drop, Bool, true, false, nat_eq, refl, sym, ap, ◌∙◌, arith}
+use Rattle.std.proofs.Common.{ℕ, List, ◌*◌, take, drop, nat_eq, sym, ap, ◌∙◌, arith}
 use Rattle.std.specs.List.{starts_with}
 use Rattle.tr_types.specs.KernelView.{pages_of}
 use Rattle.tr_types.specs.Journal.{kernel_word}
-use Rattle.tr_types.specs.KernelTables.{path_length}
-use Rattle.kern_roots.specs.Entries.{path_piece}
 use Rattle.kern_roots.proofs.ReadingPaths.{agree_more, agree_all, apart_here, apart_by_length}
 use Rattle.kern_roots.proofs.reading.entry.has_path.Goals as goal
 

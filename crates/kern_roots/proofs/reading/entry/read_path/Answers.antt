@@ -1,7 +1,6 @@
-use Rattle.std.proofs.Common.{◌≡◌, ℕ, List, ◌++◌, ◌≤◌, ◌<◌, ◌+◌, ◌*◌, take, refl, sym, ap, ◌∙◌, arith}
+use Rattle.std.proofs.Common.{ℕ, List, ◌++◌, take, sym, ap, ◌∙◌, arith}
 use Rattle.tr_types.specs.KernelView.{pages_of}
 use Rattle.tr_types.specs.Journal.{kernel_word}
-use Rattle.tr_types.specs.KernelTables.{path_length}
 use Rattle.kern_roots.specs.Entries.{path_piece}
 use Rattle.kern_roots.proofs.ReadingPieces.{pieces, pieces_more}
 use Rattle.kern_roots.proofs.ReadingPaths.{path_read}

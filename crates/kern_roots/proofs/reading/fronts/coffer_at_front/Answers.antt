@@ -1,4 +1,4 @@
-use Rattle.std.proofs.Common.{◌≡◌, ◌⊎◌, inl, inr, ℕ, ◌≤◌, ◌<◌, length, get_or, arith}
+use Rattle.std.proofs.Common.{◌≡◌, inl, inr, ◌<◌, length, get_or, arith}
 use Rattle.kern_roots.proofs.ReadingTexts.{EndsAt}
 use Rattle.kern_roots.proofs.ReadingFronts.{no_front, tells_front}
 use Rattle.kern_roots.proofs.reading.fronts.coffer_at_front.Goals as goal

@@ -1,9 +1,6 @@
-use Rattle.std.proofs.Common.{◌≡◌, ℕ, ◌≤◌, ◌-◌, List, take, length, Option, Some, None, refl, sym, ap, subst, ◌∙◌, arith}
-use Rattle.std.proofs.lemmas.List.{length-take-le}
-use Rattle.kern_roots.specs.Fronts.{IsCofferAtFront}
-use Rattle.kern_roots.proofs.ReadingSound.{sound_entry}
+use Rattle.std.proofs.Common.{◌≡◌, ℕ, sym, subst, ◌∙◌, arith}
 use Rattle.kern_roots.proofs.ReadingTexts.{path_starts}
-use Rattle.kern_roots.proofs.ReadingFronts.{NoneLonger, met_is_longest, none_longer_still, root_is_longest, root_path}
+use Rattle.kern_roots.proofs.ReadingFronts.{NoneLonger, met_is_longest, root_is_longest, root_path}
 use Rattle.kern_roots.proofs.reading.fronts.longest_front.Goals as goal
 
 pub returns-in-Some-clause-coffer : goal.returns-in-Some-clause-coffer
