@@ -1,0 +1,6 @@
+-- what the calls that read the coffer table answer
+pub mod Reading
+-- the entry of one coffer, as the kernel reads it
+pub mod Entries
+-- looking for the coffer of a path
+pub mod Fronts
