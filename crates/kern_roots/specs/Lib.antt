@@ -1,0 +1,2 @@
+-- what the changes of the table answer
+pub mod Changes

@@ -1,0 +1,43 @@
+// Which coffers there are.
+ghost use Rattle.std.specs.Prelude.{◌≡◌};
+ghost use Rattle.tr_types.specs.KernelView.{pages_of};
+ghost use Rattle.tr_types.specs.Journal.{IsReadable, kernel_word};
+ghost use Rattle.tr_types.specs.PathMap as map;
+ghost use Rattle.kern_roots.specs.Changes as spec;
+
+use crate::table::{LAST_ID, has_path, stands};
+use pm_words::Words;
+
+/// Whether a coffer has the number.
+pub fn is_coffer(words: &Words, id: u16) -> bool
+    requires { IsReadable words.now }
+    ensures { result ≡ spec.has_coffer words.now id }
+{
+    1 <= id && id <= LAST_ID && stands(words, id)
+}
+
+/// Whether a coffer has just this path.
+pub fn is_taken(words: &Words, path: &[u8]) -> bool
+    requires { IsReadable words.now }
+    ensures { result ≡ spec.is_taken words.now path.now }
+{
+    for id in 1..LAST_ID + 1 {
+        if stands(words, id) && has_path(words, id, path) {
+            return true;
+        }
+    }
+    false
+}
+
+/// The least number that no coffer has.
+pub fn free_id(words: &Words) -> Option<u16>
+    requires { IsReadable words.now }
+    ensures { result ≡ map.free_id (pages_of words.now) (kernel_word words.now) }
+{
+    for id in 1..LAST_ID + 1 {
+        if !stands(words, id) {
+            return Some(id);
+        }
+    }
+    None
+}

@@ -1,0 +1,9 @@
+//! The kernel's coffer table and its path map: which coffers there are, and which words change with them.
+#![tactic(auto)]
+
+mod changing;
+mod table;
+mod types;
+
+pub use changing::{add, drop_entry, set_perm, set_root, set_state};
+pub use types::{Pairs, Root, RootsFault};
