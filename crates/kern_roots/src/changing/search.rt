@@ -1,5 +1,5 @@
 // Which coffers there are.
-ghost use Rattle.std.specs.Prelude.{◌≡◌};
+ghost use Rattle.std.specs.Prelude.{◌≡◌, ◌≤◌, true};
 ghost use Rattle.tr_types.specs.KernelView.{pages_of};
 ghost use Rattle.tr_types.specs.Journal.{IsReadable, kernel_word};
 ghost use Rattle.tr_types.specs.PathMap as map;
@@ -11,9 +11,14 @@ use pm_words::Words;
 /// Whether a coffer has the number.
 pub fn is_coffer(words: &Words, id: u16) -> bool
     requires { IsReadable words.now }
-    ensures { result ≡ spec.has_coffer words.now id }
+    ensures there { result ≡ spec.has_coffer words.now id }
+    ensures least { result ≡ true → 1 ≤ id }
+    ensures most { result ≡ true → id ≤ 256 }
 {
-    1 <= id && id <= LAST_ID && stands(words, id)
+    match id {
+        1..=LAST_ID => stands(words, id),
+        _ => false,
+    }
 }
 
 /// Whether a coffer has just this path.

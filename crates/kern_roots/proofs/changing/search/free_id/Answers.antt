@@ -1,0 +1,24 @@
+use Rattle.std.proofs.Common.{◌≡◌, ◌∙◌, ℕ, Bool, true, false, not, ap, sym, arith}
+use Rattle.tr_types.specs.KernelView.{pages_of}
+use Rattle.tr_types.specs.Journal.{kernel_word}
+use Rattle.tr_types.specs.KernelTables.{stands_in}
+use Rattle.kern_roots.proofs.ChangingSearch.{find_start, find_hit, find_miss, find_end}
+use Rattle.kern_roots.proofs.changing.search.free_id.Goals as goal
+
+pub loop-id-init : goal.loop-id-init
+loop-id-init c = find_start (λ id. not (stands_in (pages_of c.args.words.now) (kernel_word c.args.words.now) id))
+
+pub returns-then-not-stands : goal.returns-then-not-stands
+returns-then-not-stands c =
+    sym (find_hit (λ id. not (stands_in (pages_of c.args.words.now) (kernel_word c.args.words.now) id)) c.loop-id.id c.loop-id-test.true (ap not (sym c.if-not-stands.ensures)))
+    ∙ c.loop-id.invariant
+
+pub loop-id-preserved : goal.loop-id-preserved
+loop-id-preserved c =
+    find_miss (λ id. not (stands_in (pages_of c.args.words.now) (kernel_word c.args.words.now) id)) c.loop-id.id c.loop-id-test.true (ap not (sym c.if-not-stands.ensures))
+    ∙ c.loop-id.invariant
+
+pub returns : goal.returns
+returns c =
+    sym (find_end (λ id. not (stands_in (pages_of c.args.words.now) (kernel_word c.args.words.now) id)) c.loop-id.id c.loop-id-test.false)
+    ∙ c.loop-id.invariant
