@@ -62,7 +62,7 @@ find_kept stands make p (id ∷ ids) = by (stands id) (find_kept stands make p i
 
     by : (there : Bool) → is_some (find p (map make (filter stands ids))) ≡ list_any (λ id. stands id && p (make id)) ids
         → is_some (find p (map make (cond there (id ∷ filter stands ids) (filter stands ids))))
-          ≡ ((there && p (make id)) || list_any (λ id. stands id && p (make id)) ids)
+        ≡ ((there && p (make id)) || list_any (λ id. stands id && p (make id)) ids)
     by true e = hit (p (make id)) e
     by false e = e
 

@@ -2,5 +2,5 @@
 mod ChangingSearch
 -- lists of pairs, and the words of an entry
 mod ChangingPairs
--- what a sound kernel gives
-mod ChangingSound
+-- the chain of a path bucket
+mod ChangingChain

@@ -1,6 +1,6 @@
 // The coffer table and the path buckets as the kernel reads them: by words, with committed pairs laid
 // over them.
-ghost use Rattle.std.specs.Prelude.{◌≡◌, ℕ, ◌+◌, ◌*◌, ◌<◌, ◌≤◌, ◌^◌, ◌++◌, length, take, drop, min};
+ghost use Rattle.std.specs.Prelude.{◌≡◌, ℕ, ◌+◌, ◌*◌, ◌<◌, ◌≤◌, ◌^◌, ◌++◌, length, take, drop};
 ghost use Rattle.std.specs.Int.{w64, to_le_bytes};
 ghost use Rattle.zo_layout.specs.Layout as layout;
 ghost use Rattle.pm_words.specs.Memory.{IsAddress, HasPages};
@@ -92,15 +92,21 @@ pub fn bucket_of_path(words: &Words, id: u16) -> u8
     bucket_of(&path_bytes(words, id)[..path_length(words, id)])
 }
 
-// How many bytes the path has, of those in which it stands.
+// How many bytes the path has, of those in which it stands: none where the entry says more than there
+// are.
 fn path_length(words: &Words, id: u16) -> usize
     requires readable { IsReadable words.now }
     requires least { 1 ≤ id }
     requires most { id ≤ 256 }
-    ensures value { result ≡ min (kernel_word words.now (layout.coffer_path_length (layout.coffer_entry (pages_of words.now) id))) 440 }
+    ensures path { take result (tables.path_bytes (pages_of words.now) (kernel_word words.now) id) ≡ tables.path_in (pages_of words.now) (kernel_word words.now) id }
     ensures inside { result ≤ 440 }
 {
-    field(words, id, PATH_LENGTH).min(PATH_BYTES as u64) as usize
+    let length = field(words, id, PATH_LENGTH);
+    if length <= PATH_BYTES as u64 {
+        length as usize
+    } else {
+        0
+    }
 }
 
 // All bytes in which the coffer's path stands.

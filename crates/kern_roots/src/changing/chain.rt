@@ -24,7 +24,10 @@ pub fn leading_word(words: &Words, id: u16) -> u64
     let mut place = bucket_word(words, bucket_of_path(words, id));
     for _ in 0..LONGEST_CHAIN {
         let coffer = kernel_word(words, place);
-        if coffer == 0 || coffer == u64::from(id) {
+        if coffer == 0 {
+            return place;
+        }
+        if coffer == u64::from(id) {
             return place;
         }
         place = word_of(entry(words, coffer as u16), NEXT);

@@ -1,5 +1,5 @@
 // Lists of pairs, and the words of an entry.
-ghost use Rattle.std.specs.Prelude.{◌≡◌, ◌+◌, ◌*◌, ◌<◌, ◌≤◌, ◌^◌, ◌++◌, ℕ, length, take, drop, replicate, nat_lt, IfOk, OnOk};
+ghost use Rattle.std.specs.Prelude.{◌≡◌, ◌+◌, ◌*◌, ◌<◌, ◌≤◌, ◌^◌, [], ◌∷◌, ◌++◌, ℕ, length, take, drop, replicate, nat_lt, IfOk, OnOk};
 ghost use Rattle.std.specs.List.{position_or_len};
 ghost use Rattle.std.specs.Int.{w64, from_le_bytes};
 ghost use Rattle.tr_types.specs.PathMap as map;
@@ -46,9 +46,22 @@ pub fn entry_words(
     root: &Root,
     next: u64,
 ) -> Result<Vec<u64>, AllocError>
-    ensures { (id : ℕ) → IfOk result (λ ws. ws.items ≡ map.entry_words (coffer_of id path.now root.now) next) }
+    ensures words { (id : ℕ) → IfOk result (λ ws. ws.items ≡ map.entry_words (coffer_of id path.now root.now) next) }
+    ensures length { IfOk result (λ ws. length ws.items ≡ 64) }
 {
-    let mut ws = vec![in alloc;
+    let mut ws = Vec::from_slice(alloc, &fields(root, next, path.len() as u64))?;
+    for i in 0..PATH_WORDS {
+        ws.push(text_word(path, i))?;
+    }
+    Ok(ws)
+}
+
+// The words of an entry before its path.
+fn fields(root: &Root, next: u64, path_length: u64) -> [u64; 9]
+    ensures { let r = root.now in
+        result ≡ r.state ∷ r.perm.uid ∷ r.perm.gid ∷ r.perm.mode ∷ r.control ∷ r.root ∷ next ∷ path_length ∷ r.kind ∷ [] }
+{
+    [
         u64::from(root.state),
         u64::from(root.perm.uid),
         u64::from(root.perm.gid),
@@ -56,13 +69,9 @@ pub fn entry_words(
         u64::from(root.control),
         u64::from(root.root),
         next,
-        path.len() as u64,
+        path_length,
         u64::from(root.kind),
-    ]?;
-    for i in 0..PATH_WORDS {
-        ws.push(text_word(path, i))?;
-    }
-    Ok(ws)
+    ]
 }
 
 // Word `i` of a text: eight bytes of it, the first one lowest, with zeros behind its end.
@@ -70,12 +79,19 @@ fn text_word(text: &[u8], i: usize) -> u64
     requires { i < PATH_WORDS }
     ensures { result ≡ from_le_bytes w64 (take 8 (drop (8 * i) text.now ++ replicate 8 0)) }
 {
-    if text.len() <= 8 * i {
-        return 0;
-    }
-    let rest = &text[8 * i..];
-    let count = rest.len().min(8);
+    u64::from_le_bytes(eight_bytes(text, 8 * i))
+}
+
+// Eight bytes of a text from one on, with zeros behind its end.
+fn eight_bytes(text: &[u8], start: usize) -> [u8; 8]
+    ensures { result ≡ take 8 (drop start text.now ++ replicate 8 0) }
+{
     let mut bytes = [0u8; 8];
+    if text.len() <= start {
+        return bytes;
+    }
+    let rest = &text[start..];
+    let count = rest.len().min(8);
     bytes[..count].copy_from_slice(&rest[..count]);
-    u64::from_le_bytes(bytes)
+    bytes
 }

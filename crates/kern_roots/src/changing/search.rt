@@ -1,7 +1,9 @@
 // Which coffers there are.
-ghost use Rattle.std.specs.Prelude.{◌≡◌, ◌≤◌, true};
+ghost use Rattle.std.specs.Prelude.{◌≡◌, ◌≤◌, ◌&&◌, true};
 ghost use Rattle.tr_types.specs.KernelView.{pages_of};
 ghost use Rattle.tr_types.specs.Journal.{IsReadable, kernel_word};
+ghost use Rattle.tr_types.specs.KernelTables as tables;
+ghost use Rattle.tr_types.specs.Paths.{same_text};
 ghost use Rattle.tr_types.specs.PathMap as map;
 ghost use Rattle.kern_roots.specs.Changes as spec;
 
@@ -27,11 +29,23 @@ pub fn is_taken(words: &Words, path: &[u8]) -> bool
     ensures { result ≡ spec.is_taken words.now path.now }
 {
     for id in 1..LAST_ID + 1 {
-        if stands(words, id) && has_path(words, id, path) {
+        if stands_at(words, id, path) {
             return true;
         }
     }
     false
+}
+
+// Whether there is a coffer of this number, and its path is this one.
+fn stands_at(words: &Words, id: u16, path: &[u8]) -> bool
+    requires readable { IsReadable words.now }
+    requires least { 1 ≤ id }
+    requires most { id ≤ 256 }
+    ensures { let pages = pages_of words.now in
+        let at = kernel_word words.now in
+        result ≡ (tables.stands_in pages at id && same_text (tables.path_in pages at id) path.now) }
+{
+    stands(words, id) && has_path(words, id, path)
 }
 
 /// The least number that no coffer has.
