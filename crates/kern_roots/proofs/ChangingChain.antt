@@ -1,8 +1,9 @@
 -- The chain of a path bucket, coffer by coffer.
 use Rattle.std.proofs.Common.{◌≡◌, ℕ, zero, suc, ◌+◌, ◌-◌, ◌<◌, ◌≤◌, List, [], ◌∷◌, Bool, true, false, not, ◌&&◌, cond, ◌==◌, refl, ap, sym, ◌∙◌, arith, eq-eqb, ne_eqb}
 use Rattle.std.specs.List.{list_all}
-use Rattle.std.proofs.lemmas.Bool.{not-false, and_parts, and_from}
-use Rattle.zo_layout.specs.Layout.{coffer_entry, coffer_next, path_bucket}
+use Rattle.std.proofs.lemmas.Bool.{not-false, and_parts, and_from, leb-true}
+use Rattle.std.proofs.lemmas.Nat.{mod_below}
+use Rattle.zo_layout.specs.Layout.{coffer_entry, coffer_next, path_bucket, bucket_of, name_hash}
 use Rattle.tr_types.specs.KernelTables.{chain_from, chain_in, longest_chain, is_id, belongs, bucket_fails}
 use Rattle.tr_types.specs.PathMap.{leads_to}
 
@@ -52,3 +53,42 @@ pub ids_in_bucket : (pages : ℕ) (at : ℕ → ℕ) (bucket : ℕ) → bucket_f
 ids_in_bucket pages at bucket passes =
     all_weaker (belongs pages at bucket) is_id (λ id b. (and_parts _ _ (and_parts _ _ b).0).0) (chain_in pages at bucket)
     (and_parts _ _ (and_parts _ _ (not-false _ passes)).0).0
+
+-- The head of a chain of coffers' numbers is such a number, and what is left behind it are such numbers too.
+
+head_of : (p : ℕ → Bool) (xs ys : List ℕ) (x : ℕ) → xs ≡ x ∷ ys → list_all p xs ≡ true → (p x ≡ true) × (list_all p ys ≡ true)
+head_of p xs ys x e h = and_parts (p x) (list_all p ys) (sym (ap (list_all p) e) ∙ h)
+
+pub is_id_most : (id : ℕ) → is_id id ≡ true → (1 ≤ id) × (id ≤ 256)
+is_id_most id h = (leb-true 1 id (and_parts _ _ h).0, leb-true id 256 (and_parts _ _ h).1)
+
+pub head_is_id : (pages : ℕ) (at : ℕ → ℕ) (steps head : ℕ) → steps < 257 → (head ≡ 0 → ⊥) → list_all is_id (chain_after pages at steps head) ≡ true → (1 ≤ head) × (head ≤ 256)
+head_is_id pages at steps head h ne all = is_id_most head (head_of is_id _ _ head (chain_step pages at steps head h ne) all).0
+
+pub rest_are_ids : (pages : ℕ) (at : ℕ → ℕ) (steps head next : ℕ) → steps < 257 → (head ≡ 0 → ⊥) → next ≡ next_in pages at head
+    → list_all is_id (chain_after pages at steps head) ≡ true → list_all is_id (chain_after pages at (steps + 1) next) ≡ true
+rest_are_ids pages at steps head next h ne e all =
+    ap (λ (n : ℕ). list_all is_id (chain_after pages at (steps + 1) n)) e ∙ (head_of is_id _ _ head (chain_step pages at steps head h ne) all).1
+
+-- The word that leads to a coffer, on the way along the chain.
+
+pub leads_stop : (pages : ℕ) (at : ℕ → ℕ) (steps place head id : ℕ) → steps < 257 → head ≡ 0 → leads_to pages place (chain_after pages at steps head) id ≡ place
+leads_stop pages at steps place head id h z = ap (λ (xs : List ℕ). leads_to pages place xs id) (chain_stop pages at steps head h z)
+
+pub leads_end : (pages : ℕ) (at : ℕ → ℕ) (steps place head id : ℕ) → 257 ≤ steps → leads_to pages place (chain_after pages at steps head) id ≡ place
+leads_end pages at steps place head id h = ap (λ (xs : List ℕ). leads_to pages place xs id) (chain_end pages at steps head h)
+
+pub leads_here : (pages : ℕ) (at : ℕ → ℕ) (steps place head id : ℕ) → steps < 257 → (head ≡ 0 → ⊥) → head ≡ id → leads_to pages place (chain_after pages at steps head) id ≡ place
+leads_here pages at steps place head id h ne e =
+    ap (λ (xs : List ℕ). leads_to pages place xs id) (chain_step pages at steps head h ne)
+    ∙ ap (λ (b : Bool). cond b place (leads_to pages (coffer_next (coffer_entry pages head)) (chain_after pages at (steps + 1) (next_in pages at head)) id)) (eq-eqb head id e)
+
+pub leads_past : (pages : ℕ) (at : ℕ → ℕ) (steps place head id next : ℕ) → steps < 257 → (head ≡ 0 → ⊥) → (head ≡ id → ⊥) → next ≡ coffer_next (coffer_entry pages head)
+    → leads_to pages next (chain_after pages at (steps + 1) (at next)) id ≡ leads_to pages place (chain_after pages at steps head) id
+leads_past pages at steps place head id next h ne other e =
+    ap (λ (a : ℕ). leads_to pages a (chain_after pages at (steps + 1) (at a)) id) e
+    ∙ sym (ap (λ (xs : List ℕ). leads_to pages place xs id) (chain_step pages at steps head h ne)
+    ∙ ap (λ (b : Bool). cond b place (leads_to pages (coffer_next (coffer_entry pages head)) (chain_after pages at (steps + 1) (next_in pages at head)) id)) (ne_eqb head id other))
+
+pub bucket_below : (path : List ℕ) → bucket_of path < 256
+bucket_below path = mod_below (name_hash path) 256 (omega arith)

@@ -5,7 +5,7 @@ use Rattle.std.specs.Int.{w64, to_le_bytes, from_le_bytes}
 use Rattle.std.proofs.lemmas.Bool.{cases_lt}
 use Rattle.std.proofs.lemmas.List.{take_all, drop_all, take_at, take-append-le, append_assoc, take-replicate, drop-replicate, take_more, length-take, length-drop, flat_map_more, length-replicate, replicate-append-replicate}
 use Rattle.std.proofs.lemmas.List.FromFn.{map-range_with_len_more, length-map-range_with_len}
-use Rattle.zo_layout.specs.Layout.{word_of}
+use Rattle.zo_layout.specs.Layout.{word_of, coffer_entry, coffer_next, path_bucket, bucket_of}
 use Rattle.tr_types.specs.PathMap as paths
 use Rattle.kern_roots.specs.declared.types.Root.{Root}
 use Rattle.kern_roots.specs.Changes.{coffer_of}
@@ -121,3 +121,28 @@ entry_words_are id next i text given ws front e f h =
 pub length_entry_words : (i : ℕ) (text ws front : List ℕ) → i ≡ 55 → length front ≡ 9 → ws ≡ front ++ map (text_word text) (range_with_len 0 i) → length ws ≡ 64
 length_entry_words i text ws front e f h =
     omega (arith, ap (λ (xs : List ℕ). length xs) h, length-append front (map (text_word text) (range_with_len 0 i)), length-map-range_with_len (text_word text) 0 i)
+
+-- The pairs of a change, put together.
+
+pub added_are : (pages : ℕ) (at : ℕ → ℕ) (id : ℕ) (text : List ℕ) (given : Root) (entry bucket last : ℕ) (ws : List ℕ) (first pairs : List (ℕ × ℕ))
+    → entry ≡ coffer_entry pages id → bucket ≡ path_bucket pages (bucket_of text) → last ≡ id
+    → ws ≡ paths.entry_words (coffer_of id text given) (at bucket) → first ≡ paths.from_address entry ws → pairs ≡ first ++ (bucket, last) ∷ []
+    → pairs ≡ paths.added_pairs pages at (coffer_of id text given)
+added_are pages at id text given entry bucket last ws first pairs is_entry is_bucket is_id is_ws is_first is =
+    let c = coffer_of id text given in
+    is
+    ∙ ap (λ (ps : List (ℕ × ℕ)). ps ++ (bucket, last) ∷ []) is_first
+    ∙ ap (λ (a : ℕ). paths.from_address a ws ++ (bucket, last) ∷ []) is_entry
+    ∙ ap (λ (xs : List ℕ). paths.from_address (coffer_entry pages id) xs ++ (bucket, last) ∷ []) is_ws
+    ∙ ap (λ (b : ℕ). paths.from_address (coffer_entry pages id) (paths.entry_words c (at b)) ++ (b, last) ∷ []) is_bucket
+    ∙ ap (λ (n : ℕ). paths.from_address (coffer_entry pages id) (paths.entry_words c (at (path_bucket pages (bucket_of text)))) ++ (path_bucket pages (bucket_of text), n) ∷ []) is_id
+
+pub dropped_are : (pages : ℕ) (at : ℕ → ℕ) (id entry lead next : ℕ) (cleared pairs : List (ℕ × ℕ))
+    → entry ≡ coffer_entry pages id → lead ≡ paths.leading_word pages at id → next ≡ at (coffer_next (coffer_entry pages id))
+    → cleared ≡ paths.from_address entry paths.no_words → pairs ≡ paths.with_pair (lead, next) cleared
+    → pairs ≡ paths.dropped_pairs pages at id
+dropped_are pages at id entry lead next cleared pairs is_entry is_lead is_next is_cleared is =
+    is
+    ∙ ap (paths.with_pair (lead, next)) (is_cleared ∙ ap (λ (a : ℕ). paths.from_address a paths.no_words) is_entry)
+    ∙ ap (λ (a : ℕ). paths.with_pair (a, next) (paths.from_address (coffer_entry pages id) paths.no_words)) is_lead
+    ∙ ap (λ (n : ℕ). paths.with_pair (paths.leading_word pages at id, n) (paths.from_address (coffer_entry pages id) paths.no_words)) is_next

@@ -11,11 +11,11 @@ mod chain;
 mod pairs;
 mod search;
 
-use crate::table::{ENTRY_WORDS, NEXT, bucket_word, entry, field};
+use crate::table::{NEXT, bucket_word, entry, field};
 use crate::{Pairs, Root, RootsFault};
 use chain::leading_word;
 use kern_journal::kernel_word;
-use pairs::{entry_words, from_address, put_pair};
+use pairs::{cleared, entry_words, from_address, put_pair};
 use pm_words::Words;
 use search::{free_id, is_coffer, is_taken};
 use sqlite_items::Items;
@@ -128,7 +128,7 @@ fn dropped_pairs(alloc: Global, words: &Words, id: u16) -> Result<Pairs, AllocEr
     requires most { id ≤ 256 }
     ensures { IfOk result (λ pairs. pairs ≡ map.dropped_pairs (pages_of words.now) (kernel_word words.now) id) }
 {
-    let mut pairs = from_address(alloc, entry(words, id), &[0; ENTRY_WORDS])?;
+    let mut pairs = cleared(alloc, entry(words, id))?;
     put_pair(
         &mut pairs,
         (leading_word(words, id), field(words, id, NEXT)),

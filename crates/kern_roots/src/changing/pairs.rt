@@ -6,7 +6,7 @@ ghost use Rattle.tr_types.specs.PathMap as map;
 ghost use Rattle.kern_roots.specs.Changes.{coffer_of};
 
 use crate::Root;
-use crate::table::PATH_WORDS;
+use crate::table::{ENTRY_WORDS, PATH_WORDS};
 use std::alloc::{AllocError, Global};
 use zo_layout::word_of;
 
@@ -21,6 +21,14 @@ pub fn from_address(alloc: Global, start: u64, ws: &[u64]) -> Result<Vec<(u64, u
         pairs.push((word_of(start, i as u64), word))?;
     }
     Ok(pairs)
+}
+
+/// Zeros for all words of an entry.
+pub fn cleared(alloc: Global, entry: u64) -> Result<Vec<(u64, u64)>, AllocError>
+    requires { entry < 2 ^ 40 }
+    ensures { IfOk result (λ pairs. pairs.items ≡ map.from_address entry map.no_words) }
+{
+    from_address(alloc, entry, &[0; ENTRY_WORDS])
 }
 
 /// Puts a pair in its place by address.

@@ -1,5 +1,5 @@
 // Which coffers there are.
-ghost use Rattle.std.specs.Prelude.{◌≡◌, ◌≤◌, ◌&&◌, true};
+ghost use Rattle.std.specs.Prelude.{◌≡◌, ◌≤◌, ◌&&◌, true, IfSome};
 ghost use Rattle.tr_types.specs.KernelView.{pages_of};
 ghost use Rattle.tr_types.specs.Journal.{IsReadable, kernel_word};
 ghost use Rattle.tr_types.specs.KernelTables as tables;
@@ -51,7 +51,9 @@ fn stands_at(words: &Words, id: u16, path: &[u8]) -> bool
 /// The least number that no coffer has.
 pub fn free_id(words: &Words) -> Option<u16>
     requires { IsReadable words.now }
-    ensures { result ≡ map.free_id (pages_of words.now) (kernel_word words.now) }
+    ensures least_free { result ≡ map.free_id (pages_of words.now) (kernel_word words.now) }
+    ensures least { IfSome result (λ id. 1 ≤ id) }
+    ensures most { IfSome result (λ id. id ≤ 256) }
 {
     for id in 1..LAST_ID + 1 {
         if !stands(words, id) {

@@ -8,8 +8,8 @@ use Rattle.kern_roots.proofs.changing.search.free_id.Goals as goal
 pub loop-id-init : goal.loop-id-init
 loop-id-init c = find_start (λ id. not (stands_in (pages_of c.args.words.now) (kernel_word c.args.words.now) id))
 
-pub returns-then-not-stands : goal.returns-then-not-stands
-returns-then-not-stands c =
+pub returns-then-not-stands-clause-least_free : goal.returns-then-not-stands-clause-least_free
+returns-then-not-stands-clause-least_free c =
     sym (find_hit (λ id. not (stands_in (pages_of c.args.words.now) (kernel_word c.args.words.now) id)) c.loop-id.id c.loop-id-test.true (ap not (sym c.if-not-stands.ensures)))
     ∙ c.loop-id.invariant
 
@@ -18,7 +18,7 @@ loop-id-preserved c =
     find_miss (λ id. not (stands_in (pages_of c.args.words.now) (kernel_word c.args.words.now) id)) c.loop-id.id c.loop-id-test.true (ap not (sym c.if-not-stands.ensures))
     ∙ c.loop-id.invariant
 
-pub returns : goal.returns
-returns c =
+pub returns-clause-least_free : goal.returns-clause-least_free
+returns-clause-least_free c =
     sym (find_end (λ id. not (stands_in (pages_of c.args.words.now) (kernel_word c.args.words.now) id)) c.loop-id.id c.loop-id-test.false)
     ∙ c.loop-id.invariant
