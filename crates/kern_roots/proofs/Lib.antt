@@ -4,3 +4,7 @@ mod ChangingSearch
 mod ChangingPairs
 -- the chain of a path bucket
 mod ChangingChain
+-- addresses of entries and buckets
+mod ChangingLayout
+-- what is read once pairs are stored
+mod ChangingReads

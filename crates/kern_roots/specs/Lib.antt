@@ -1,2 +1,4 @@
 -- what the changes of the table answer
 pub mod Changes
+-- what the changes leave
+pub mod Laws

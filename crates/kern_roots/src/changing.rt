@@ -36,7 +36,7 @@ pub fn add(
 ) -> Result<(u16, Pairs), RootsFault>
     requires sound { IsSoundKernel words.now }
     requires path { is_path_text path.now ≡ true }
-    ensures { Adds words.now path.now root.now result }
+    ensures { Adds (pages_of words.now) (kernel_word words.now) path.now root.now result }
 {
     if is_taken(words, path.as_bytes()) {
         return Err(RootsFault::Taken);
@@ -52,7 +52,7 @@ pub fn add(
 /// entry become 0. `NoCoffer` comes exactly where no coffer has the number.
 pub fn drop_entry(alloc: Global, words: &Words, id: u16) -> Result<Pairs, RootsFault>
     requires { IsSoundKernel words.now }
-    ensures { Changes words.now id (map.dropped_pairs (pages_of words.now) (kernel_word words.now) id) result }
+    ensures { Changes (pages_of words.now) (kernel_word words.now) id (map.dropped_pairs (pages_of words.now) (kernel_word words.now) id) result }
 {
     if !is_coffer(words, id) {
         return Err(RootsFault::NoCoffer);
@@ -64,7 +64,7 @@ pub fn drop_entry(alloc: Global, words: &Words, id: u16) -> Result<Pairs, RootsF
 /// no coffer has the number.
 pub fn set_perm(alloc: Global, words: &Words, id: u16, perm: &Perm) -> Result<Pairs, RootsFault>
     requires { IsSoundKernel words.now }
-    ensures { Changes words.now id (map.perm_pairs (pages_of words.now) id perm.now) result }
+    ensures { Changes (pages_of words.now) (kernel_word words.now) id (map.perm_pairs (pages_of words.now) id perm.now) result }
 {
     if !is_coffer(words, id) {
         return Err(RootsFault::NoCoffer);
@@ -81,7 +81,7 @@ pub fn set_perm(alloc: Global, words: &Words, id: u16, perm: &Perm) -> Result<Pa
 /// The pair that gives a coffer another state. `NoCoffer` comes exactly where no coffer has the number.
 pub fn set_state(alloc: Global, words: &Words, id: u16, state: u8) -> Result<Pairs, RootsFault>
     requires { IsSoundKernel words.now }
-    ensures { Changes words.now id (map.state_pairs (pages_of words.now) id state) result }
+    ensures { Changes (pages_of words.now) (kernel_word words.now) id (map.state_pairs (pages_of words.now) id state) result }
 {
     if !is_coffer(words, id) {
         return Err(RootsFault::NoCoffer);
@@ -93,7 +93,7 @@ pub fn set_state(alloc: Global, words: &Words, id: u16, state: u8) -> Result<Pai
 /// number.
 pub fn set_root(alloc: Global, words: &Words, id: u16, root: u32) -> Result<Pairs, RootsFault>
     requires { IsSoundKernel words.now }
-    ensures { Changes words.now id (map.root_pairs (pages_of words.now) id root) result }
+    ensures { Changes (pages_of words.now) (kernel_word words.now) id (map.root_pairs (pages_of words.now) id root) result }
 {
     if !is_coffer(words, id) {
         return Err(RootsFault::NoCoffer);

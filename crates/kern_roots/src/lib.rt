@@ -2,6 +2,7 @@
 #![tactic(auto)]
 
 mod changing;
+mod laws;
 mod table;
 mod types;
 

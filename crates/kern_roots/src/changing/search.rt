@@ -13,7 +13,7 @@ use pm_words::Words;
 /// Whether a coffer has the number.
 pub fn is_coffer(words: &Words, id: u16) -> bool
     requires { IsReadable words.now }
-    ensures there { result ≡ spec.has_coffer words.now id }
+    ensures there { result ≡ spec.has_coffer (pages_of words.now) (kernel_word words.now) id }
     ensures least { result ≡ true → 1 ≤ id }
     ensures most { result ≡ true → id ≤ 256 }
 {
@@ -26,7 +26,7 @@ pub fn is_coffer(words: &Words, id: u16) -> bool
 /// Whether a coffer has just this path.
 pub fn is_taken(words: &Words, path: &[u8]) -> bool
     requires { IsReadable words.now }
-    ensures { result ≡ spec.is_taken words.now path.now }
+    ensures { result ≡ spec.is_taken (pages_of words.now) (kernel_word words.now) path.now }
 {
     for id in 1..LAST_ID + 1 {
         if stands_at(words, id, path) {

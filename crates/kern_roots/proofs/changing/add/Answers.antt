@@ -8,7 +8,7 @@ use Rattle.kern_roots.proofs.changing.add.Goals as goal
 pub returns : goal.returns
 returns c =
     let words = c.args.words.now in (
-      ap (is_taken words) (sym c.as_bytes.ensures) ∙ sym c.if-is_taken.ensures,
+      ap (is_taken (pages_of words) (kernel_word words)) (sym c.as_bytes.ensures) ∙ sym c.if-is_taken.ensures,
       sym c.in-Some.ensures.least_free,
       c.in_ok-pairs.ensures ∙ ap (λ (text : List ℕ). map.added_pairs (pages_of words) (kernel_word words) (coffer_of c.in-Some.id text c.args.root.now)) c.as_bytes-2.ensures,
     )

@@ -7,4 +7,4 @@ use Rattle.kern_roots.proofs.ChangingSearch.{ids_from, has_path_at}
 use Rattle.kern_roots.proofs.changing.search.is_taken.Given as goal
 
 abbrev pub invariant-loop-id : goal.invariant-loop-id
-invariant-loop-id l = list_any (has_path_at (pages_of l.words) (kernel_word l.words) l.path) (ids_from l.id) ≡ spec.is_taken l.words l.path
+invariant-loop-id l = list_any (has_path_at (pages_of l.words) (kernel_word l.words) l.path) (ids_from l.id) ≡ spec.is_taken (pages_of l.words) (kernel_word l.words) l.path
