@@ -22,10 +22,10 @@ laid_append (p ∷ ps) qs addr d = laid_append ps qs addr (cond (nat_eq p.0 addr
 -- Words in their places from an address on: none of the others changes, and each is read in its place.
 
 miss_from : (start n : ℕ) (ws : List ℕ) (addr d : ℕ) → ((k : ℕ) → n ≤ k → k < n + length ws → word_of start k ≡ addr → ⊥) → laid_over (placed start n ws) addr d ≡ d
-miss_from start n [] addr d no = refl
-miss_from start n (w ∷ ws) addr d no =
-    laid_past (word_of start n) w (placed start (n + 1) ws) addr d (no n (omega arith) (omega arith))
-    ∙ miss_from start (n + 1) ws addr d (λ k l h. no k (omega arith) (omega arith))
+miss_from start n [] addr d apart = refl
+miss_from start n (w ∷ ws) addr d apart =
+    laid_past (word_of start n) w (placed start (n + 1) ws) addr d (apart n (omega arith) (omega arith))
+    ∙ miss_from start (n + 1) ws addr d (λ k l h. apart k (omega arith) (omega arith))
 
 hit_from : (start n : ℕ) (ws : List ℕ) (k d e : ℕ) → k < length ws → laid_over (placed start n ws) (word_of start (n + k)) d ≡ get_or ws k e
 hit_from start n [] k d e h = absurd (omega arith)
@@ -39,7 +39,7 @@ hit_from start n (w ∷ ws) (suc k) d e h =
     ∙ hit_from start (n + 1) ws k d e (omega arith)
 
 pub laid_miss : (start : ℕ) (ws : List ℕ) (addr d : ℕ) → ((k : ℕ) → k < length ws → word_of start k ≡ addr → ⊥) → laid_over (from_address start ws) addr d ≡ d
-laid_miss start ws addr d no = miss_from start 0 ws addr d (λ k l h. no k (omega arith))
+laid_miss start ws addr d apart = miss_from start 0 ws addr d (λ k l h. apart k (omega arith))
 
 pub laid_hit : (start : ℕ) (ws : List ℕ) (k d e : ℕ) → k < length ws → laid_over (from_address start ws) (word_of start k) d ≡ get_or ws k e
 laid_hit start ws k d e h =

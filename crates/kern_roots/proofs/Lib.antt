@@ -8,3 +8,7 @@ mod ChangingChain
 mod ChangingLayout
 -- what is read once pairs are stored
 mod ChangingReads
+-- lists of numbers
+mod ChangingLists
+-- entries of the coffer table
+mod ChangingEntries
