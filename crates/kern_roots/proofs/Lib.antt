@@ -12,3 +12,5 @@ mod ChangingReads
 mod ChangingLists
 -- entries of the coffer table
 mod ChangingEntries
+-- chains, and the rule of buckets
+mod ChangingBuckets
