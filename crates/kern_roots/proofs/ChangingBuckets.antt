@@ -129,10 +129,10 @@ chain_short pages at bucket chain h = few_numbers 256 chain h.once (λ x i. let 
 
 -- Chains along the same words.
 
-step_is : (f : ℕ → ℕ) (n head : ℕ) → (head ≡ 0 → ⊥) → chain_from f (suc n) head ≡ head ∷ chain_from f n (f head)
+pub step_is : (f : ℕ → ℕ) (n head : ℕ) → (head ≡ 0 → ⊥) → chain_from f (suc n) head ≡ head ∷ chain_from f n (f head)
 step_is f n head ne = ap (λ (b : Bool). cond b [] (head ∷ chain_from f n (f head))) (ne_eqb head 0 ne)
 
-stop_is : (f : ℕ → ℕ) (n head : ℕ) → head ≡ 0 → chain_from f (suc n) head ≡ []
+pub stop_is : (f : ℕ → ℕ) (n head : ℕ) → head ≡ 0 → chain_from f (suc n) head ≡ []
 stop_is f n head z = ap (λ (b : Bool). cond b [] (head ∷ chain_from f n (f head))) (eq-eqb head 0 z)
 
 pub same_chain : (f g : ℕ → ℕ) (n head : ℕ) → ((x : ℕ) → is_in_chain x (chain_from f n head) ≡ true → g x ≡ f x) → chain_from g n head ≡ chain_from f n head

@@ -14,3 +14,5 @@ mod ChangingLists
 mod ChangingEntries
 -- chains, and the rule of buckets
 mod ChangingBuckets
+-- how chains change
+mod ChangingMoves
