@@ -16,3 +16,7 @@ mod ChangingEntries
 mod ChangingBuckets
 -- how chains change
 mod ChangingMoves
+-- changes of one entry
+mod ChangingSets
+-- a coffer comes
+mod ChangingAdd

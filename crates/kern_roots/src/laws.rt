@@ -1,7 +1,23 @@
 // Laws of the definitions alone.
-ghost use Rattle.kern_roots.specs.Laws.{StateLaw};
+ghost use Rattle.kern_roots.specs.Laws.{PermLaw, RootLaw, StateLaw};
 
-/// After a change of a coffer's state, the table is as sound as before.
+/// After a coffer's permission has changed, the others are as they were, and the table is sound where
+/// the coffer's own entry is.
+pub fn perm_law()
+    ensures { PermLaw }
+{
+}
+
+/// After a coffer's state has changed to one in which it is there, the others are as they were, and the
+/// table is sound where the coffer's own entry is.
 pub fn state_law()
     ensures { StateLaw }
-{}
+{
+}
+
+/// After a coffer's root page has changed, the others are as they were, and the table is sound where the
+/// coffer's own entry is.
+pub fn root_law()
+    ensures { RootLaw }
+{
+}
