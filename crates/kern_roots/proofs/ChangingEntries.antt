@@ -25,7 +25,7 @@ same_state pages at after id same =
     let e = first_word (coffer_entry pages id) in
     ap after (sym e) ∙ same 0 (omega arith) ∙ ap at e
 
-flat_same : (f g : ℕ → List ℕ) (n a : ℕ) → ((k : ℕ) → a ≤ k → k < a + n → f k ≡ g k) → flat_map f (range_with_len a n) ≡ flat_map g (range_with_len a n)
+pub flat_same : (f g : ℕ → List ℕ) (n a : ℕ) → ((k : ℕ) → a ≤ k → k < a + n → f k ≡ g k) → flat_map f (range_with_len a n) ≡ flat_map g (range_with_len a n)
 flat_same f g zero a each = refl
 flat_same f g (suc n) a each =
     ap (λ (xs : List ℕ). xs ++ flat_map f (range_with_len (a + 1) n)) (each a (omega arith) (omega arith))

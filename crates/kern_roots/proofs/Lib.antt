@@ -20,3 +20,7 @@ mod ChangingMoves
 mod ChangingSets
 -- a coffer comes
 mod ChangingAdd
+-- paths in the words of an entry
+mod ChangingText
+-- a coffer is added
+mod ChangingAdded

@@ -1,5 +1,12 @@
 // Laws of the definitions alone.
-ghost use Rattle.kern_roots.specs.Laws.{PermLaw, RootLaw, StateLaw};
+ghost use Rattle.kern_roots.specs.Laws.{AddLaw, PermLaw, RootLaw, StateLaw};
+
+/// After a coffer has come, it is as it was given, the others are as they were, and the table is sound
+/// where the new coffer's entry is.
+pub fn add_law()
+    ensures { AddLaw }
+{
+}
 
 /// After a coffer's permission has changed, the others are as they were, and the table is sound where
 /// the coffer's own entry is.
