@@ -18,6 +18,7 @@ pub record Arrives (pages id bucket : ℕ) (at after : ℕ → ℕ) : Type 0 whe
   pub there : stands_in pages after id ≡ true
   pub hashed : bucket_of (path_in pages after id) ≡ bucket
   pub others : OthersStay pages id at after
+  pub nexts : (other : ℕ) → 1 ≤ other → other ≤ 256 → (other ≡ id → ⊥) → next_in pages after other ≡ next_in pages at other
   pub head : after (path_bucket pages bucket) ≡ id
   pub next : next_in pages after id ≡ at (path_bucket pages bucket)
   pub buckets : (b : ℕ) → b < 256 → (b ≡ bucket → ⊥) → after (path_bucket pages b) ≡ at (path_bucket pages b)
@@ -35,7 +36,7 @@ stays_in pages id bucket at after a b x h =
       least = r.least;
       most = r.most;
       there = ap is_there (same_state pages at after x same) ∙ r.there;
-      hashed = ap bucket_of (same_path_in pages at after x (λ i g k. same i k)) ∙ r.hashed;
+      hashed = ap bucket_of (same_path_in pages at after x (λ i g k. same i k (omega arith))) ∙ r.hashed;
     })
 
 came_from : (pages id bucket : ℕ) (at after : ℕ → ℕ) → Arrives pages id bucket at after → (b x : ℕ) → (x ≡ id → ⊥) → belongs pages after b x ≡ true → belongs pages at b x ≡ true
@@ -46,7 +47,7 @@ came_from pages id bucket at after a b x ne h =
       least = r.least;
       most = r.most;
       there = sym (ap is_there (same_state pages at after x same)) ∙ r.there;
-      hashed = ap bucket_of (sym (same_path_in pages at after x (λ i g k. same i k))) ∙ r.hashed;
+      hashed = ap bucket_of (sym (same_path_in pages at after x (λ i g k. same i k (omega arith)))) ∙ r.hashed;
     })
 
 own_bucket : (pages id bucket : ℕ) (at after : ℕ → ℕ) → Arrives pages id bucket at after → bucket_fails pages at bucket ≡ false → bucket_fails pages after bucket ≡ false
@@ -69,7 +70,7 @@ own_bucket pages id bucket at after a passes =
     chain : chain_in pages after bucket ≡ id ∷ old
     chain = pushed pages at after bucket id some (chain_short pages at bucket old h) a.head a.next
         (λ x i. let b = belongs_parts pages at bucket x (h.each x i) in
-          a.others x b.least b.most (was_other pages id bucket at after a bucket x (h.each x i)) 6 (omega arith))
+          a.nexts x b.least b.most (was_other pages id bucket at after a bucket x (h.each x i)))
 
     absent : is_in_chain id old ≡ false
     absent = false_from_ne_true (is_in_chain id old) (λ i. was_other pages id bucket at after a bucket id (h.each id i) refl)
@@ -96,7 +97,7 @@ arrived pages id bucket at after a b h passes = by (cases_eq b bucket)
           (own_bucket pages id bucket at after a (sym (ap (bucket_fails pages at) e) ∙ passes))
     by (inr ne) =
         bucket_stays pages at after b (a.buckets b h ne)
-          (λ x i. let r = belongs_parts pages at b x i in a.others x r.least r.most (was_other pages id bucket at after a b x i) 6 (omega arith))
+          (λ x i. let r = belongs_parts pages at b x i in a.nexts x r.least r.most (was_other pages id bucket at after a b x i))
           (stays_in pages id bucket at after a b)
           (λ x i. elsewhere ne x i (cases_eq x id))
           passes

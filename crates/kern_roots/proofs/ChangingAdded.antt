@@ -152,6 +152,7 @@ add_is pages at after c passes new same keeps =
           there = ap is_there (ap after (sym (first_word (coffer_entry pages c.id))) ∙ own 0 (omega arith)) ∙ new.there;
           hashed = ap bucket_of path;
           others = others;
+          nexts = λ other lo mo ne. same.entries other 6 lo mo (omega arith) ∙ other_word pages at c f.least other 6 lo mo ne (omega arith);
           head = same.buckets bucket (bucket_below c.path) ∙ own_bucket pages at c;
           next = own 6 (omega arith);
           buckets = λ d g ne. same.buckets d g ∙ other_bucket pages at c f.least f.most d ne;
@@ -174,4 +175,4 @@ add_is pages at after c passes new same keeps =
     path = new_path pages after c (at (path_bucket pages (bucket_of c.path))) new.path new.short own
 
     others : OthersStay pages c.id at after
-    others other lo mo ne i h = same.entries other i lo mo h ∙ other_word pages at c f.least other i lo mo ne h
+    others other lo mo ne i h next = same.entries other i lo mo h ∙ other_word pages at c f.least other i lo mo ne h

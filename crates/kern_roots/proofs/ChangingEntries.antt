@@ -12,9 +12,9 @@ use Rattle.kern_roots.proofs.ChangingSearch.{there_at, not_there_at}
 use Rattle.kern_roots.proofs.ChangingLayout.{first_word}
 use Rattle.kern_roots.proofs.ChangingLists.{id_in_all, all_are_ids, in_filter, from_filter, none_passes, not_passed}
 
--- the same words in an entry
+-- the same words in an entry, but for the next coffer in its chain
 abbrev pub SameEntry : ℕ → (ℕ → ℕ) → (ℕ → ℕ) → ℕ → Type 0
-SameEntry pages at after id = (i : ℕ) → i < 64 → after (word_of (coffer_entry pages id) i) ≡ at (word_of (coffer_entry pages id) i)
+SameEntry pages at after id = (i : ℕ) → i < 64 → (i ≡ 6 → ⊥) → after (word_of (coffer_entry pages id) i) ≡ at (word_of (coffer_entry pages id) i)
 
 -- the same words in an entry from the path's length on
 abbrev pub SamePath : ℕ → (ℕ → ℕ) → (ℕ → ℕ) → ℕ → Type 0
@@ -23,7 +23,7 @@ SamePath pages at after id = (i : ℕ) → 7 ≤ i → i < 64 → after (word_of
 pub same_state : (pages : ℕ) (at after : ℕ → ℕ) (id : ℕ) → SameEntry pages at after id → after (coffer_state (coffer_entry pages id)) ≡ at (coffer_state (coffer_entry pages id))
 same_state pages at after id same =
     let e = first_word (coffer_entry pages id) in
-    ap after (sym e) ∙ same 0 (omega arith) ∙ ap at e
+    ap after (sym e) ∙ same 0 (omega arith) (omega arith) ∙ ap at e
 
 pub flat_same : (f g : ℕ → List ℕ) (n a : ℕ) → ((k : ℕ) → a ≤ k → k < a + n → f k ≡ g k) → flat_map f (range_with_len a n) ≡ flat_map g (range_with_len a n)
 flat_same f g zero a each = refl
@@ -48,14 +48,14 @@ same_path_rule pages at after id same =
 
 pub same_coffer : (pages : ℕ) (at after : ℕ → ℕ) (id : ℕ) → SameEntry pages at after id → coffer_in pages after id ≡ coffer_in pages at id
 same_coffer pages at after id same =
-    let path = same_path_in pages at after id (λ i l h. same i h) in
-    let uid = same 1 (omega arith) in
-    let gid = same 2 (omega arith) in
-    let mode = same 3 (omega arith) in
+    let path = same_path_in pages at after id (λ i l h. same i h (omega arith)) in
+    let uid = same 1 (omega arith) (omega arith) in
+    let gid = same 2 (omega arith) (omega arith) in
+    let mode = same 3 (omega arith) (omega arith) in
     let state = same_state pages at after id same in
-    let kind = same 8 (omega arith) in
-    let control = same 4 (omega arith) in
-    let root = same 5 (omega arith) in
+    let kind = same 8 (omega arith) (omega arith) in
+    let control = same 4 (omega arith) (omega arith) in
+    let root = same 5 (omega arith) (omega arith) in
     λ i. record { id = id; path = path i; perm = record { uid = uid i; gid = gid i; mode = mode i }; state = state i; kind = kind i; control = control i; root = root i }
 
 -- a number of a coffer that is there
@@ -163,7 +163,7 @@ passes_again pages at after id same control root once h = by (cases_Bool (stands
         let e = entry_parts pages at id s h in
         entry_from pages after id (ap is_there state ∙ s) (record {
           perm = ap perm_fails coffer ∙ e.perm;
-          path = same_path_rule pages at after id (λ i l m. same i m) ∙ e.path;
+          path = same_path_rule pages at after id (λ i l m. same i m (omega arith)) ∙ e.path;
           kind = ap (λ (c : Coffer). not (c.kind == 0)) coffer ∙ e.kind;
           owned = ap (pages_fail pages after) coffer ∙ same_owned pages at after (coffer_in pages at id) (control s) (root s) ∙ e.owned;
           once = once s e.once;

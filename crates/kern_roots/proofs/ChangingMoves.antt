@@ -25,7 +25,7 @@ bucket_stays pages at after bucket head next stay come passes =
       whole = λ x b. ap (is_in_chain x) chain ∙ h.whole x (come x b);
     })
 
-longest : longest_chain ≡ suc 256
+pub longest : longest_chain ≡ suc 256
 unfolding longest_chain
 longest = refl
 
@@ -47,9 +47,9 @@ pushed pages at after bucket id some short head first same =
     ∙ ap (λ (k : ℕ). id ∷ chain_from g 256 k) first
     ∙ ap (λ (xs : List ℕ). id ∷ xs) (same_chain f g 256 h (λ x i. same x (sym (ap (is_in_chain x) fewer) ∙ i)) ∙ fewer)
 
--- The word that leads to a coffer is the first one, or that of a coffer of the chain.
+-- The word that leads to a coffer is the first one, or that of another coffer of the chain.
 pub leads_is : (pages place : ℕ) (xs : List ℕ) (id : ℕ)
-    → (leads_to pages place xs id ≡ place) ⊎ ((x : ℕ) × (is_in_chain x xs ≡ true) × (leads_to pages place xs id ≡ coffer_next (coffer_entry pages x)))
+    → (leads_to pages place xs id ≡ place) ⊎ ((x : ℕ) × (is_in_chain x xs ≡ true) × (x ≡ id → ⊥) × (leads_to pages place xs id ≡ coffer_next (coffer_entry pages x)))
 leads_is pages place [] id = inl refl
 leads_is pages place (c ∷ xs) id = by (cases_eq c id) (leads_is pages (coffer_next (coffer_entry pages c)) xs id)
   where
@@ -58,11 +58,11 @@ leads_is pages place (c ∷ xs) id = by (cases_eq c id) (leads_is pages (coffer_
 
     by : (c ≡ id) ⊎ (c ≡ id → ⊥)
         → (leads_to pages (coffer_next (coffer_entry pages c)) xs id ≡ coffer_next (coffer_entry pages c))
-          ⊎ ((x : ℕ) × (is_in_chain x xs ≡ true) × (leads_to pages (coffer_next (coffer_entry pages c)) xs id ≡ coffer_next (coffer_entry pages x)))
-        → (leads_to pages place (c ∷ xs) id ≡ place) ⊎ ((x : ℕ) × (is_in_chain x (c ∷ xs) ≡ true) × (leads_to pages place (c ∷ xs) id ≡ coffer_next (coffer_entry pages x)))
+          ⊎ ((x : ℕ) × (is_in_chain x xs ≡ true) × (x ≡ id → ⊥) × (leads_to pages (coffer_next (coffer_entry pages c)) xs id ≡ coffer_next (coffer_entry pages x)))
+        → (leads_to pages place (c ∷ xs) id ≡ place) ⊎ ((x : ℕ) × (is_in_chain x (c ∷ xs) ≡ true) × (x ≡ id → ⊥) × (leads_to pages place (c ∷ xs) id ≡ coffer_next (coffer_entry pages x)))
     by (inl e) more = inl (ap (λ (b : Bool). cond b place (leads_to pages (coffer_next (coffer_entry pages c)) xs id)) (eq-eqb c id e))
-    by (inr ne) (inl e) = inr (c, in_first c xs, step ne ∙ e)
-    by (inr ne) (inr (x, i, e)) = inr (x, in_rest x c xs i, step ne ∙ e)
+    by (inr ne) (inl e) = inr (c, in_first c xs, ne, step ne ∙ e)
+    by (inr ne) (inr (x, i, other, e)) = inr (x, in_rest x c xs i, other, step ne ∙ e)
 
 -- A coffer leaves a chain: the word that led to it now leads past it, and the other words of the chain stay.
 pub record Leaves (pages : ℕ) (at after : ℕ → ℕ) (id place head : ℕ) (chain : List ℕ) : Type 0 where
@@ -132,10 +132,10 @@ leaves_later pages at after id n place head rest ne other l more =
     there (inr i) = i
 
     elsewhere : (leads_to pages (coffer_next (coffer_entry pages head)) rest id ≡ coffer_next (coffer_entry pages head))
-          ⊎ ((x : ℕ) × (is_in_chain x rest ≡ true) × (leads_to pages (coffer_next (coffer_entry pages head)) rest id ≡ coffer_next (coffer_entry pages x)))
+          ⊎ ((x : ℕ) × (is_in_chain x rest ≡ true) × (x ≡ id → ⊥) × (leads_to pages (coffer_next (coffer_entry pages head)) rest id ≡ coffer_next (coffer_entry pages x)))
         → place ≡ leads_to pages (coffer_next (coffer_entry pages head)) rest id → ⊥
     elsewhere (inl e) q = l.apart head (in_first head rest) (sym (q ∙ e))
-    elsewhere (inr (x, i, e)) q = l.apart x (in_rest x head rest i) (sym (q ∙ e))
+    elsewhere (inr (x, i, ne, e)) q = l.apart x (in_rest x head rest i) (sym (q ∙ e))
 
 pub removed : (pages : ℕ) (at after : ℕ → ℕ) (id n place head : ℕ) → length (chain_from (next_in pages at) n head) < n
     → Leaves pages at after id place head (chain_from (next_in pages at) n head)

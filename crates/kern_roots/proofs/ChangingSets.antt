@@ -19,7 +19,7 @@ use Rattle.kern_roots.proofs.ChangingEntries.{SameEntry, SamePath, same_state, s
 use Rattle.kern_roots.proofs.ChangingBuckets.{Belongs, belongs_parts, belongs_from}
 use Rattle.kern_roots.proofs.ChangingMoves.{bucket_stays}
 
--- the entries of all coffers but one have the same words
+-- the entries of all coffers but one have the same words, but for the next coffers in their chains
 abbrev pub OthersStay : ℕ → ℕ → (ℕ → ℕ) → (ℕ → ℕ) → Type 0
 OthersStay pages id at after = (other : ℕ) → 1 ≤ other → other ≤ 256 → (other ≡ id → ⊥) → SameEntry pages at after other
 
@@ -36,7 +36,7 @@ others_pass pages at after id passes keeps stay clash other l m ne =
       (passes.entries other l m)
   where
     own : path_in pages after other ≡ path_in pages at other
-    own = same_path_in pages at after other (λ i g h. stay other l m ne i h)
+    own = same_path_in pages at after other (λ i g h. stay other l m ne i h (omega arith))
 
     pair : stands_in pages at other ≡ true → path_stands_twice pages at other ≡ false → (x : ℕ) → 1 ≤ x → x ≤ 256 → stands_in pages after x ≡ true → (x ≡ other → ⊥) → (x ≡ id) ⊎ (x ≡ id → ⊥)
         → same_text (path_in pages after x) (path_in pages at other) ≡ false
@@ -44,7 +44,7 @@ others_pass pages at after id passes keeps stay clash other l m ne =
         ap (λ (k : ℕ). same_text (path_in pages after k) (path_in pages at other)) e
         ∙ clash other l m ne s (sym (ap (stands_in pages after) e) ∙ sx)
     pair s none x lx mx sx differs (inr nx) =
-        ap (λ (path : List ℕ). same_text path (path_in pages at other)) (same_path_in pages at after x (λ i g h. stay x lx mx nx i h))
+        ap (λ (path : List ℕ). same_text path (path_in pages at other)) (same_path_in pages at after x (λ i g h. stay x lx mx nx i h (omega arith)))
         ∙ twice_at pages at other x none lx mx (sym (ap is_there (same_state pages at after x (stay x lx mx nx))) ∙ sx) differs
 
 -- A change of an entry that leaves its path and the word behind it in its chain.
@@ -52,6 +52,7 @@ pub record Touches (pages id : ℕ) (at after : ℕ → ℕ) : Type 0 where
   pub least : 1 ≤ id
   pub most : id ≤ 256
   pub others : OthersStay pages id at after
+  pub nexts : (other : ℕ) → 1 ≤ other → other ≤ 256 → (other ≡ id → ⊥) → next_in pages after other ≡ next_in pages at other
   pub buckets : (bucket : ℕ) → bucket < 256 → after (path_bucket pages bucket) ≡ at (path_bucket pages bucket)
   pub next : next_in pages after id ≡ next_in pages at id
   pub path : SamePath pages at after id
@@ -78,11 +79,11 @@ touched pages id at after passes keeps t = record {
         subst (λ (k : ℕ). (stands_in pages after k ≡ stands_in pages at k) × (path_in pages after k ≡ path_in pages at k)) (sym e)
           (t.there ∙ sym t.was, same_path_in pages at after id t.path)
     entry x l m (inr ne) =
-        (ap is_there (same_state pages at after x (t.others x l m ne)), same_path_in pages at after x (λ i g h. t.others x l m ne i h))
+        (ap is_there (same_state pages at after x (t.others x l m ne)), same_path_in pages at after x (λ i g h. t.others x l m ne i h (omega arith)))
 
     next : (x : ℕ) → 1 ≤ x → x ≤ 256 → (x ≡ id) ⊎ (x ≡ id → ⊥) → next_in pages after x ≡ next_in pages at x
     next x l m (inl e) = subst (λ (k : ℕ). next_in pages after k ≡ next_in pages at k) (sym e) t.next
-    next x l m (inr ne) = t.others x l m ne 6 (omega arith)
+    next x l m (inr ne) = t.nexts x l m ne
 
     clash : (other : ℕ) → 1 ≤ other → other ≤ 256 → (other ≡ id → ⊥) → stands_in pages at other ≡ true → stands_in pages after id ≡ true
         → same_text (path_in pages after id) (path_in pages at other) ≡ false
@@ -127,7 +128,8 @@ pub touches : (pages id low high : ℕ) (at after : ℕ → ℕ) (pairs : List (
 touches pages id low high at after pairs l m top w same was there = record {
   least = l;
   most = m;
-  others = λ other lo mo ne i h. same.entries other i lo mo h ∙ other_word pages id low high other i (at (word_of (coffer_entry pages other) i)) pairs l lo (omega arith) h (inl ne) w;
+  others = λ other lo mo ne i h next. same.entries other i lo mo h ∙ other_word pages id low high other i (at (word_of (coffer_entry pages other) i)) pairs l lo (omega arith) h (inl ne) w;
+  nexts = λ other lo mo ne. same.entries other 6 lo mo (omega arith) ∙ other_word pages id low high other 6 (at (word_of (coffer_entry pages other) 6)) pairs l lo (omega arith) (omega arith) (inl ne) w;
   buckets = λ bucket h. same.buckets bucket h ∙ bucket_word pages id low high bucket (at (path_bucket pages bucket)) pairs l m (omega arith) w;
   next = rest_stays pages id low high at after pairs l m (omega arith) w same 6 (omega arith) (inr top);
   path = λ i g h. rest_stays pages id low high at after pairs l m (omega arith) w same i h (inr (omega arith));
