@@ -114,7 +114,7 @@ root_fails c = (c.id == 1) && not (same_text c.path (codes "/"))
 there_rule : (pages : ℕ) (at : ℕ → ℕ) (id : ℕ) → stands_in pages at id ≡ true → entry_fails pages at id ≡ coffer_fails pages at (coffer_in pages at id)
 there_rule pages at id s = ap (λ (b : Bool). cond b (coffer_fails pages at (coffer_in pages at id)) (not (at (coffer_state (coffer_entry pages id)) == 0) || (id == 1))) s
 
-free_rule : (pages : ℕ) (at : ℕ → ℕ) (id : ℕ) → stands_in pages at id ≡ false → entry_fails pages at id ≡ (not (at (coffer_state (coffer_entry pages id)) == 0) || (id == 1))
+pub free_rule : (pages : ℕ) (at : ℕ → ℕ) (id : ℕ) → stands_in pages at id ≡ false → entry_fails pages at id ≡ (not (at (coffer_state (coffer_entry pages id)) == 0) || (id == 1))
 free_rule pages at id s = ap (λ (b : Bool). cond b (coffer_fails pages at (coffer_in pages at id)) (not (at (coffer_state (coffer_entry pages id)) == 0) || (id == 1))) s
 
 -- what passes of an entry that is there

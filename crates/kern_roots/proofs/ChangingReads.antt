@@ -6,7 +6,7 @@ use Rattle.tr_types.specs.Journal.{laid_over}
 use Rattle.tr_types.specs.PathMap.{from_address}
 use Rattle.kern_roots.proofs.ChangingPairs.{placed}
 
-laid_first : (a w : ℕ) (ps : List (ℕ × ℕ)) (addr d : ℕ) → a ≡ addr → laid_over ((a, w) ∷ ps) addr d ≡ laid_over ps addr w
+pub laid_first : (a w : ℕ) (ps : List (ℕ × ℕ)) (addr d : ℕ) → a ≡ addr → laid_over ((a, w) ∷ ps) addr d ≡ laid_over ps addr w
 laid_first a w ps addr d e = ap (λ (b : Bool). laid_over ps addr (cond b w d)) (eq-eqb a addr e)
 
 pub laid_past : (a w : ℕ) (ps : List (ℕ × ℕ)) (addr d : ℕ) → (a ≡ addr → ⊥) → laid_over ((a, w) ∷ ps) addr d ≡ laid_over ps addr d

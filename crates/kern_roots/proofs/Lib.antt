@@ -24,3 +24,5 @@ mod ChangingAdd
 mod ChangingText
 -- a coffer is added
 mod ChangingAdded
+-- a coffer goes
+mod ChangingDrop
