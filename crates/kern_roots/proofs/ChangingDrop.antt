@@ -10,7 +10,7 @@ use Rattle.tr_types.specs.PathMap.{leads_to, leading_word, no_words, from_addres
 use Rattle.kern_roots.specs.Laws.{PassesRoots, SameRoots, KeepsOwners, ChangesOne, DropLaw}
 use Rattle.kern_roots.proofs.ChangingPairs.{placed}
 use Rattle.kern_roots.proofs.ChangingLayout.{first_word, same_entry_word, entry_not_bucket, same_bucket}
-use Rattle.kern_roots.proofs.ChangingReads.{laid_past, laid_one, laid_miss, laid_hit, laid_first}
+use Rattle.kern_roots.proofs.ChangingReads.{laid_past, laid_one, laid_miss, laid_hit, laid_first, miss_from}
 use Rattle.kern_roots.proofs.ChangingLists.{in_filter, from_filter}
 use Rattle.kern_roots.proofs.ChangingChain.{next_in, bucket_below}
 use Rattle.kern_roots.proofs.ChangingEntries.{same_state, same_path_in, same_coffer, coffer_is_there, free_rule}
@@ -150,3 +150,129 @@ went pages id at after g lead passes b small = by (cases_eq b (own_of pages at i
     by : (b ≡ own_of pages at id) ⊎ (b ≡ own_of pages at id → ⊥) → bucket_fails pages after b ≡ false
     by (inl e) = subst (λ (k : ℕ). bucket_fails pages after k ≡ false) (sym e) (own_bucket pages id at after g (passes.buckets (own_of pages at id) (bucket_below (path_in pages at id))))
     by (inr ne) = other_bucket pages id at after g lead b small ne (passes.buckets b small)
+
+-- A pair in its place among others is read as itself where the others don't name its address, and changes nothing elsewhere.
+
+with_miss : (p : ℕ × ℕ) (ps : List (ℕ × ℕ)) (addr d : ℕ) → (p.0 ≡ addr → ⊥) → laid_over (with_pair p ps) addr d ≡ laid_over ps addr d
+with_miss p [] addr d ne = laid_past p.0 p.1 [] addr d ne
+with_miss p (q ∷ ps) addr d ne = by (cases_Bool (nat_lt p.0 q.0)) (with_miss p ps addr (cond (nat_eq q.0 addr) q.1 d) ne)
+  where
+    by : (nat_lt p.0 q.0 ≡ true) ⊎ (nat_lt p.0 q.0 ≡ false)
+        → laid_over (with_pair p ps) addr (cond (nat_eq q.0 addr) q.1 d) ≡ laid_over ps addr (cond (nat_eq q.0 addr) q.1 d)
+        → laid_over (cond (nat_lt p.0 q.0) (p ∷ q ∷ ps) (q ∷ with_pair p ps)) addr d ≡ laid_over (q ∷ ps) addr d
+    by (inl t) more = ap (λ (b : Bool). laid_over (cond b (p ∷ q ∷ ps) (q ∷ with_pair p ps)) addr d) t ∙ laid_past p.0 p.1 (q ∷ ps) addr d ne
+    by (inr t) more = ap (λ (b : Bool). laid_over (cond b (p ∷ q ∷ ps) (q ∷ with_pair p ps)) addr d) t ∙ more
+
+with_hit : (start n : ℕ) (ws : List ℕ) (p : ℕ × ℕ) (addr d : ℕ) → p.0 ≡ addr → ((k : ℕ) → n ≤ k → k < n + length ws → word_of start k ≡ addr → ⊥)
+    → laid_over (with_pair p (placed start n ws)) addr d ≡ p.1
+with_hit start n [] p addr d e apart = laid_one p.0 p.1 addr d e
+with_hit start n (w ∷ ws) p addr d e apart = by (cases_Bool (nat_lt p.0 (word_of start n))) (with_hit start (n + 1) ws p addr d e (λ k l h. apart k (omega arith) (omega arith)))
+  where
+    by : (nat_lt p.0 (word_of start n) ≡ true) ⊎ (nat_lt p.0 (word_of start n) ≡ false)
+        → laid_over (with_pair p (placed start (n + 1) ws)) addr d ≡ p.1
+        → laid_over (cond (nat_lt p.0 (word_of start n)) (p ∷ placed start n (w ∷ ws)) ((word_of start n, w) ∷ with_pair p (placed start (n + 1) ws))) addr d ≡ p.1
+    by (inl t) more =
+        ap (λ (b : Bool). laid_over (cond b (p ∷ placed start n (w ∷ ws)) ((word_of start n, w) ∷ with_pair p (placed start (n + 1) ws))) addr d) t
+        ∙ laid_first p.0 p.1 (placed start n (w ∷ ws)) addr d e
+        ∙ miss_from start n (w ∷ ws) addr p.1 apart
+    by (inr t) more =
+        ap (λ (b : Bool). laid_over (cond b (p ∷ placed start n (w ∷ ws)) ((word_of start n, w) ∷ with_pair p (placed start (n + 1) ws))) addr d) t
+        ∙ laid_past (word_of start n) w (with_pair p (placed start (n + 1) ws)) addr d (apart n (omega arith) (omega arith))
+        ∙ more
+
+length_no_words : length no_words ≡ 64
+unfolding no_words
+length_no_words = length-replicate {A = ℕ} 64 0
+
+no_word_at : (k : ℕ) → k < 64 → get_or no_words k 0 ≡ 0
+unfolding no_words
+no_word_at k h = get_or-replicate {A = ℕ} 64 k 0 0 h
+
+-- What is read once a coffer is dropped.
+
+leading_apart : (pages : ℕ) (at : ℕ → ℕ) (id : ℕ) → 1 ≤ id → id ≤ 256 → Leads pages at id → (i : ℕ) → i < 64 → word_of (coffer_entry pages id) i ≡ leading_word pages at id → ⊥
+leading_apart pages at id l m (ByBucket e) i h q = entry_not_bucket pages id i (own_of pages at id) l m h (q ∙ e)
+leading_apart pages at id l m (ByCoffer x ne b e) i h q =
+    let r = belongs_parts pages at (own_of pages at id) x b in
+    ne (sym (same_entry_word pages id x i 6 l r.least h (omega arith) (q ∙ e)).0)
+
+dropped_word : (pages : ℕ) (at : ℕ → ℕ) (id : ℕ) → 1 ≤ id → id ≤ 256 → Leads pages at id → (i : ℕ) → i < 64
+    → read_after (dropped_pairs pages at id) at (word_of (coffer_entry pages id) i) ≡ 0
+dropped_word pages at id l m lead i h =
+    let addr = word_of (coffer_entry pages id) i in
+    let long = length_no_words in
+    with_miss (leading_word pages at id, next_in pages at id) (from_address (coffer_entry pages id) no_words) addr (at addr) (λ e. leading_apart pages at id l m lead i h (sym e))
+    ∙ laid_hit (coffer_entry pages id) no_words i (at addr) 0 (omega arith)
+    ∙ no_word_at i h
+
+other_read : (pages : ℕ) (at : ℕ → ℕ) (id addr : ℕ) → ((i : ℕ) → i < 64 → word_of (coffer_entry pages id) i ≡ addr → ⊥) → (leading_word pages at id ≡ addr → ⊥)
+    → read_after (dropped_pairs pages at id) at addr ≡ at addr
+other_read pages at id addr apart ne =
+    let long = length_no_words in
+    with_miss (leading_word pages at id, next_in pages at id) (from_address (coffer_entry pages id) no_words) addr (at addr) ne
+    ∙ laid_miss (coffer_entry pages id) no_words addr (at addr) (λ k h e. apart k (omega arith) e)
+
+leading_read : (pages : ℕ) (at : ℕ → ℕ) (id : ℕ) → 1 ≤ id → id ≤ 256 → Leads pages at id → read_after (dropped_pairs pages at id) at (leading_word pages at id) ≡ next_in pages at id
+leading_read pages at id l m lead =
+    let addr = leading_word pages at id in
+    let long = length_no_words in
+    with_hit (coffer_entry pages id) 0 no_words (addr, next_in pages at id) addr (at addr) refl (λ k g h e. leading_apart pages at id l m lead k (omega arith) e)
+
+pub drop_is : DropLaw
+drop_is pages at after id passes has ne same keeps =
+    (gone,
+    free_rule pages after id gone ∙ ap (λ (n : ℕ). not (n == 0) || (id == 1)) cleared ∙ ne_eqb id 1 ne,
+    record {
+      others = λ other lo mo other_id. same_coffer pages at after other (others other lo mo other_id);
+      entries = others_pass pages at after id passes keeps others (λ other lo mo other_id s there. absurd (true≢false (sym there ∙ gone)));
+      buckets = went pages id at after goes lead passes;
+    })
+  where
+    r : (1 ≤ id) × (id ≤ 256) × (stands_in pages at id ≡ true)
+    r = coffer_is_there pages at id has
+
+    lead : Leads pages at id
+    lead = leads pages at id (holds_at pages at (own_of pages at id) (passes.buckets (own_of pages at id) (bucket_below (path_in pages at id))))
+
+    cleared : after (coffer_state (coffer_entry pages id)) ≡ 0
+    cleared = ap after (sym (first_word (coffer_entry pages id))) ∙ same.entries id 0 r.0 r.1 (omega arith) ∙ dropped_word pages at id r.0 r.1 lead 0 (omega arith)
+
+    gone : stands_in pages after id ≡ false
+    gone = ap is_there cleared
+
+    apart : (other i : ℕ) → 1 ≤ other → (other ≡ id → ⊥) → i < 64 → (k : ℕ) → k < 64 → word_of (coffer_entry pages id) k ≡ word_of (coffer_entry pages other) i → ⊥
+    apart other i lo other_id h k g e = other_id (sym (same_entry_word pages id other k i r.0 lo g h e).0)
+
+    unled : Leads pages at id → (other i : ℕ) → 1 ≤ other → other ≤ 256 → i < 64 → (i ≡ 6 → ⊥) → leading_word pages at id ≡ word_of (coffer_entry pages other) i → ⊥
+    unled (ByBucket e) other i lo mo h nx q = entry_not_bucket pages other i (own_of pages at id) lo mo h (sym q ∙ e)
+    unled (ByCoffer x nid b e) other i lo mo h nx q =
+        let s = belongs_parts pages at (own_of pages at id) x b in
+        nx (same_entry_word pages other x i 6 lo s.least h (omega arith) (sym q ∙ e)).1
+
+    others : OthersStay pages id at after
+    others other lo mo other_id i h nx =
+        same.entries other i lo mo h
+        ∙ other_read pages at id (word_of (coffer_entry pages other) i) (apart other i lo other_id h) (unled lead other i lo mo h nx)
+
+    led : Leads pages at id → after (leading_word pages at id) ≡ read_after (dropped_pairs pages at id) at (leading_word pages at id)
+    led (ByBucket e) =
+        ap after e ∙ same.buckets (own_of pages at id) (bucket_below (path_in pages at id)) ∙ ap (read_after (dropped_pairs pages at id) at) (sym e)
+    led (ByCoffer x nid b e) =
+        let s = belongs_parts pages at (own_of pages at id) x b in
+        ap after e ∙ same.entries x 6 s.least s.most (omega arith) ∙ ap (read_after (dropped_pairs pages at id) at) (sym e)
+
+    goes : Goes pages id at after
+    goes = record {
+      least = r.0;
+      most = r.1;
+      was = r.2;
+      gone = gone;
+      others = others;
+      past = led lead ∙ leading_read pages at id r.0 r.1 lead;
+      nexts = λ other lo mo other_id elsewhere.
+        same.entries other 6 lo mo (omega arith)
+        ∙ other_read pages at id (word_of (coffer_entry pages other) 6) (apart other 6 lo other_id (omega arith)) (λ e. elsewhere (sym e));
+      buckets = λ b h elsewhere.
+        same.buckets b h
+        ∙ other_read pages at id (path_bucket pages b) (λ i g e. entry_not_bucket pages id i b r.0 r.1 g e) (λ e. elsewhere (sym e));
+    }

@@ -21,7 +21,7 @@ laid_append (p ∷ ps) qs addr d = laid_append ps qs addr (cond (nat_eq p.0 addr
 
 -- Words in their places from an address on: none of the others changes, and each is read in its place.
 
-miss_from : (start n : ℕ) (ws : List ℕ) (addr d : ℕ) → ((k : ℕ) → n ≤ k → k < n + length ws → word_of start k ≡ addr → ⊥) → laid_over (placed start n ws) addr d ≡ d
+pub miss_from : (start n : ℕ) (ws : List ℕ) (addr d : ℕ) → ((k : ℕ) → n ≤ k → k < n + length ws → word_of start k ≡ addr → ⊥) → laid_over (placed start n ws) addr d ≡ d
 miss_from start n [] addr d apart = refl
 miss_from start n (w ∷ ws) addr d apart =
     laid_past (word_of start n) w (placed start (n + 1) ws) addr d (apart n (omega arith) (omega arith))

@@ -1,10 +1,17 @@
 // Laws of the definitions alone.
-ghost use Rattle.kern_roots.specs.Laws.{AddLaw, PermLaw, RootLaw, StateLaw};
+ghost use Rattle.kern_roots.specs.Laws.{AddLaw, DropLaw, PermLaw, RootLaw, StateLaw};
 
 /// After a coffer has come, it is as it was given, the others are as they were, and the table is sound
 /// where the new coffer's entry is.
 pub fn add_law()
     ensures { AddLaw }
+{
+}
+
+/// After a coffer other than the root coffer has gone, its number is free, the others are as they were,
+/// and the table is sound.
+pub fn drop_law()
+    ensures { DropLaw }
 {
 }
 

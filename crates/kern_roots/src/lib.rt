@@ -7,5 +7,5 @@ mod table;
 mod types;
 
 pub use changing::{add, drop_entry, set_perm, set_root, set_state};
-pub use laws::{add_law, perm_law, root_law, state_law};
+pub use laws::{add_law, drop_law, perm_law, root_law, state_law};
 pub use types::{Pairs, Root, RootsFault};
