@@ -70,7 +70,7 @@ own_bucket pages id bucket at after a passes =
     chain : chain_in pages after bucket ≡ id ∷ old
     chain = pushed pages at after bucket id some (chain_short pages at bucket old h) a.head a.next
         (λ x i. let b = belongs_parts pages at bucket x (h.each x i) in
-          a.nexts x b.least b.most (was_other pages id bucket at after a bucket x (h.each x i)))
+        a.nexts x b.least b.most (was_other pages id bucket at after a bucket x (h.each x i)))
 
     absent : is_in_chain id old ≡ false
     absent = false_from_ne_true (is_in_chain id old) (λ i. was_other pages id bucket at after a bucket id (h.each id i) refl)
@@ -94,10 +94,10 @@ arrived pages id bucket at after a b h passes = by (cases_eq b bucket)
     by : (b ≡ bucket) ⊎ (b ≡ bucket → ⊥) → bucket_fails pages after b ≡ false
     by (inl e) =
         subst (λ (k : ℕ). bucket_fails pages after k ≡ false) (sym e)
-          (own_bucket pages id bucket at after a (sym (ap (bucket_fails pages at) e) ∙ passes))
+        (own_bucket pages id bucket at after a (sym (ap (bucket_fails pages at) e) ∙ passes))
     by (inr ne) =
         bucket_stays pages at after b (a.buckets b h ne)
-          (λ x i. let r = belongs_parts pages at b x i in a.nexts x r.least r.most (was_other pages id bucket at after a b x i))
-          (stays_in pages id bucket at after a b)
-          (λ x i. elsewhere ne x i (cases_eq x id))
-          passes
+        (λ x i. let r = belongs_parts pages at b x i in a.nexts x r.least r.most (was_other pages id bucket at after a b x i))
+        (stays_in pages id bucket at after a b)
+        (λ x i. elsewhere ne x i (cases_eq x id))
+        passes

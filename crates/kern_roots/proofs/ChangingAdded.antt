@@ -62,7 +62,7 @@ length_words c next = omega (arith, length-map-range_with_len (text_word c.path)
 -- the entry's words and the bucket's, one after another
 read_again : (pages : ℕ) (at : ℕ → ℕ) (c : Coffer) (addr : ℕ)
     → read_after (added_pairs pages at c) at addr
-      ≡ laid_over ((path_bucket pages (bucket_of c.path), c.id) ∷ []) addr (laid_over (from_address (coffer_entry pages c.id) (new_words pages at c)) addr (at addr))
+    ≡ laid_over ((path_bucket pages (bucket_of c.path), c.id) ∷ []) addr (laid_over (from_address (coffer_entry pages c.id) (new_words pages at c)) addr (at addr))
 read_again pages at c addr =
     laid_append (from_address (coffer_entry pages c.id) (new_words pages at c)) ((path_bucket pages (bucket_of c.path), c.id) ∷ []) addr (at addr)
 
@@ -110,8 +110,8 @@ new_path : (pages : ℕ) (after : ℕ → ℕ) (c : Coffer) (next : ℕ) → is_
     → ((i : ℕ) → i < 64 → after (word_of (coffer_entry pages c.id) i) ≡ get_or (entry_words c next) i 0) → path_in pages after c.id ≡ c.path
 new_path pages after c next text short own =
     let bytes : path_bytes pages after c.id ≡ flat_map (chunk c.path) (range_with_len 0 55) =
-        flat_same (λ i. to_le_bytes w64 (after (coffer_path_word (coffer_entry pages c.id) i))) (chunk c.path) 55 0
-          (λ k g h. ap (to_le_bytes w64) (own (9 + k) (omega arith) ∙ path_word c next k (omega arith)) ∙ word_bytes c.path k text) in
+    flat_same (λ i. to_le_bytes w64 (after (coffer_path_word (coffer_entry pages c.id) i))) (chunk c.path) 55 0
+    (λ k g h. ap (to_le_bytes w64) (own (9 + k) (omega arith) ∙ path_word c next k (omega arith)) ∙ word_bytes c.path k text) in
     ap (λ (n : ℕ). cond (nat_le n 440) (take n (path_bytes pages after c.id)) []) (own 7 (omega arith))
     ∙ ap (λ (b : Bool). cond b (take (length c.path) (path_bytes pages after c.id)) []) (le-leb (length c.path) 440 short)
     ∙ ap (take (length c.path)) bytes
@@ -139,25 +139,26 @@ not_same pages at path other fresh l m s =
     ∙ not_passed (has_path_at pages at path) all_ids other (sym (taken_by_ids pages at path) ∙ fresh) (id_in_all other l m)
 
 pub add_is : AddLaw
-add_is pages at after c passes new same keeps =
-    (new_coffer pages after c next new.path new.short own,
-    record {
-      others = λ other lo mo ne. same_coffer pages at after other (others other lo mo ne);
-      entries = others_pass pages at after c.id passes keeps others
-          (λ other lo mo ne s there. ap (λ (path : List ℕ). same_text path (path_in pages at other)) path ∙ not_same pages at c.path other new.fresh lo mo s);
-      buckets = λ b h. arrived pages c.id bucket at after (record {
-          least = f.least;
-          most = f.most;
-          free = f.free;
-          there = ap is_there (ap after (sym (first_word (coffer_entry pages c.id))) ∙ own 0 (omega arith)) ∙ new.there;
-          hashed = ap bucket_of path;
-          others = others;
-          nexts = λ other lo mo ne. same.entries other 6 lo mo (omega arith) ∙ other_word pages at c f.least other 6 lo mo ne (omega arith);
-          head = same.buckets bucket (bucket_below c.path) ∙ own_bucket pages at c;
-          next = own 6 (omega arith);
-          buckets = λ d g ne. same.buckets d g ∙ other_bucket pages at c f.least f.most d ne;
-        }) b h (passes.buckets b h);
-    })
+add_is pages at after c passes new same keeps = (
+  new_coffer pages after c next new.path new.short own,
+  record {
+    others = λ other lo mo ne. same_coffer pages at after other (others other lo mo ne);
+    entries = others_pass pages at after c.id passes keeps others
+        (λ other lo mo ne s there. ap (λ (path : List ℕ). same_text path (path_in pages at other)) path ∙ not_same pages at c.path other new.fresh lo mo s);
+    buckets = λ b h. arrived pages c.id bucket at after (record {
+      least = f.least;
+      most = f.most;
+      free = f.free;
+      there = ap is_there (ap after (sym (first_word (coffer_entry pages c.id))) ∙ own 0 (omega arith)) ∙ new.there;
+      hashed = ap bucket_of path;
+      others = others;
+      nexts = λ other lo mo ne. same.entries other 6 lo mo (omega arith) ∙ other_word pages at c f.least other 6 lo mo ne (omega arith);
+      head = same.buckets bucket (bucket_below c.path) ∙ own_bucket pages at c;
+      next = own 6 (omega arith);
+      buckets = λ d g ne. same.buckets d g ∙ other_bucket pages at c f.least f.most d ne;
+    }) b h (passes.buckets b h);
+  },
+)
   where
     f : IsFree pages at c.id
     f = is_free pages at c.id new.free

@@ -97,8 +97,8 @@ belongs_parts pages at bucket x h =
 pub belongs_from : (pages : ℕ) (at : ℕ → ℕ) (bucket x : ℕ) → Belongs pages at bucket x → belongs pages at bucket x ≡ true
 belongs_from pages at bucket x b =
     and_from (is_id x && stands_in pages at x) (bucket_of (path_in pages at x) == bucket)
-      (and_from (is_id x) (stands_in pages at x) (and_from _ _ (le-leb 1 x b.least) (le-leb x 256 b.most)) b.there)
-      (eq-eqb (bucket_of (path_in pages at x)) bucket b.hashed)
+    (and_from (is_id x) (stands_in pages at x) (and_from _ _ (le-leb 1 x b.least) (le-leb x 256 b.most)) b.there)
+    (eq-eqb (bucket_of (path_in pages at x)) bucket b.hashed)
 
 pub holds_at : (pages : ℕ) (at : ℕ → ℕ) (bucket : ℕ) → bucket_fails pages at bucket ≡ false → Holds pages at bucket (chain_in pages at bucket)
 holds_at pages at bucket passes =
@@ -111,8 +111,8 @@ holds_at pages at bucket passes =
       each = λ x i. all_at (belongs pages at bucket) chain x two.0 i;
       once = two.1;
       whole = λ x b.
-        let r = belongs_parts pages at bucket x b in
-        all_at (λ id. is_in_chain id chain) (filter (belongs pages at bucket) all_ids) x three.1 (in_filter (belongs pages at bucket) all_ids x (id_in_all x r.least r.most) b);
+          let r = belongs_parts pages at bucket x b in
+          all_at (λ id. is_in_chain id chain) (filter (belongs pages at bucket) all_ids) x three.1 (in_filter (belongs pages at bucket) all_ids x (id_in_all x r.least r.most) b);
     }
 
 pub holds_from : (pages : ℕ) (at : ℕ → ℕ) (bucket : ℕ) → Holds pages at bucket (chain_in pages at bucket) → bucket_fails pages at bucket ≡ false
@@ -121,8 +121,8 @@ holds_from pages at bucket h =
     let all = list_all (belongs pages at bucket) chain in
     let lacks = list_all (λ id. is_in_chain id chain) (filter (belongs pages at bucket) all_ids) in
     ap not (and_from (all && none_twice chain) lacks
-      (and_from all (none_twice chain) (all_from (belongs pages at bucket) chain h.each) h.once)
-      (all_from (λ id. is_in_chain id chain) (filter (belongs pages at bucket) all_ids) (λ x i. h.whole x (from_filter (belongs pages at bucket) all_ids x i).1)))
+    (and_from all (none_twice chain) (all_from (belongs pages at bucket) chain h.each) h.once)
+    (all_from (λ id. is_in_chain id chain) (filter (belongs pages at bucket) all_ids) (λ x i. h.whole x (from_filter (belongs pages at bucket) all_ids x i).1)))
 
 pub chain_short : (pages : ℕ) (at : ℕ → ℕ) (bucket : ℕ) (chain : List ℕ) → Holds pages at bucket chain → length chain ≤ 256
 chain_short pages at bucket chain h = few_numbers 256 chain h.once (λ x i. let b = belongs_parts pages at bucket x (h.each x i) in (b.least, b.most))

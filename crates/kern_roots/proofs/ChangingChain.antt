@@ -62,8 +62,11 @@ head_of p xs ys x e h = and_parts (p x) (list_all p ys) (sym (ap (list_all p) e)
 pub is_id_most : (id : ℕ) → is_id id ≡ true → (1 ≤ id) × (id ≤ 256)
 is_id_most id h = (leb-true 1 id (and_parts _ _ h).0, leb-true id 256 (and_parts _ _ h).1)
 
+pub head_in_table : (pages : ℕ) (at : ℕ → ℕ) (steps head : ℕ) → steps < 257 → (head ≡ 0 → ⊥) → list_all is_id (chain_after pages at steps head) ≡ true → is_id head ≡ true
+head_in_table pages at steps head h ne all = (head_of is_id _ _ head (chain_step pages at steps head h ne) all).0
+
 pub head_is_id : (pages : ℕ) (at : ℕ → ℕ) (steps head : ℕ) → steps < 257 → (head ≡ 0 → ⊥) → list_all is_id (chain_after pages at steps head) ≡ true → (1 ≤ head) × (head ≤ 256)
-head_is_id pages at steps head h ne all = is_id_most head (head_of is_id _ _ head (chain_step pages at steps head h ne) all).0
+head_is_id pages at steps head h ne all = is_id_most head (head_in_table pages at steps head h ne all)
 
 pub rest_are_ids : (pages : ℕ) (at : ℕ → ℕ) (steps head next : ℕ) → steps < 257 → (head ≡ 0 → ⊥) → next ≡ next_in pages at head
     → list_all is_id (chain_after pages at steps head) ≡ true → list_all is_id (chain_after pages at (steps + 1) next) ≡ true
@@ -83,10 +86,11 @@ leads_here pages at steps place head id h ne e =
     ap (λ (xs : List ℕ). leads_to pages place xs id) (chain_step pages at steps head h ne)
     ∙ ap (λ (b : Bool). cond b place (leads_to pages (coffer_next (coffer_entry pages head)) (chain_after pages at (steps + 1) (next_in pages at head)) id)) (eq-eqb head id e)
 
-pub leads_past : (pages : ℕ) (at : ℕ → ℕ) (steps place head id next : ℕ) → steps < 257 → (head ≡ 0 → ⊥) → (head ≡ id → ⊥) → next ≡ coffer_next (coffer_entry pages head)
-    → leads_to pages next (chain_after pages at (steps + 1) (at next)) id ≡ leads_to pages place (chain_after pages at steps head) id
-leads_past pages at steps place head id next h ne other e =
-    ap (λ (a : ℕ). leads_to pages a (chain_after pages at (steps + 1) (at a)) id) e
+pub leads_past : (pages : ℕ) (at : ℕ → ℕ) (steps place head id next following : ℕ) → steps < 257 → (head ≡ 0 → ⊥) → (head ≡ id → ⊥) → next ≡ coffer_next (coffer_entry pages head)
+    → following ≡ next_in pages at head → leads_to pages next (chain_after pages at (steps + 1) following) id ≡ leads_to pages place (chain_after pages at steps head) id
+leads_past pages at steps place head id next following h ne other e f =
+    ap (λ (a : ℕ). leads_to pages a (chain_after pages at (steps + 1) following) id) e
+    ∙ ap (λ (n : ℕ). leads_to pages (coffer_next (coffer_entry pages head)) (chain_after pages at (steps + 1) n) id) f
     ∙ sym (ap (λ (xs : List ℕ). leads_to pages place xs id) (chain_step pages at steps head h ne)
     ∙ ap (λ (b : Bool). cond b place (leads_to pages (coffer_next (coffer_entry pages head)) (chain_after pages at (steps + 1) (next_in pages at head)) id)) (ne_eqb head id other))
 

@@ -43,7 +43,7 @@ leads : (pages : ℕ) (at : ℕ → ℕ) (id : ℕ) → Holds pages at (own_of p
 leads pages at id h = by (leads_is pages (path_bucket pages (own_of pages at id)) (chain_in pages at (own_of pages at id)) id)
   where
     by : (leading_word pages at id ≡ path_bucket pages (own_of pages at id))
-          ⊎ ((x : ℕ) × (is_in_chain x (chain_in pages at (own_of pages at id)) ≡ true) × (x ≡ id → ⊥) × (leading_word pages at id ≡ coffer_next (coffer_entry pages x)))
+        ⊎ ((x : ℕ) × (is_in_chain x (chain_in pages at (own_of pages at id)) ≡ true) × (x ≡ id → ⊥) × (leading_word pages at id ≡ coffer_next (coffer_entry pages x)))
         → Leads pages at id
     by (inl e) = ByBucket e
     by (inr (x, i, ne, e)) = ByCoffer x ne (h.each x i) e
@@ -78,10 +78,10 @@ own_bucket : (pages id : ℕ) (at after : ℕ → ℕ) → Goes pages id at afte
 own_bucket pages id at after g passes =
     holds_from pages after own (record {
       each = λ x i. let parts = from_filter (λ y. not (y == id)) old x (sym (ap (is_in_chain x) chain) ∙ i) in
-        stays_in pages id at after g own x (eqb-false x id (not-true (x == id) parts.1)) (h.each x parts.0);
+          stays_in pages id at after g own x (eqb-false x id (not-true (x == id) parts.1)) (h.each x parts.0);
       once = ap none_twice chain ∙ once_in_part (λ y. not (y == id)) old h.once;
       whole = λ x b. ap (is_in_chain x) chain
-        ∙ in_filter (λ y. not (y == id)) old x (h.whole x (was_in pages id at after g own x b)) (not_from_false (x == id) (ne_eqb x id (isnt_gone pages id at after g own x b)));
+          ∙ in_filter (λ y. not (y == id)) old x (h.whole x (was_in pages id at after g own x b)) (not_from_false (x == id) (ne_eqb x id (isnt_gone pages id at after g own x b)));
     })
   where
     own : ℕ
@@ -120,10 +120,10 @@ other_bucket : (pages id : ℕ) (at after : ℕ → ℕ) → Goes pages id at af
     → bucket_fails pages after b ≡ false
 other_bucket pages id at after g lead b small ne passes =
     bucket_stays pages at after b (g.buckets b small (head lead))
-      (λ x i. let r = belongs_parts pages at b x i in g.nexts x r.least r.most (differs x i) (apart lead x i))
-      (λ x i. stays_in pages id at after g b x (differs x i) i)
-      (was_in pages id at after g b)
-      passes
+    (λ x i. let r = belongs_parts pages at b x i in g.nexts x r.least r.most (differs x i) (apart lead x i))
+    (λ x i. stays_in pages id at after g b x (differs x i) i)
+    (was_in pages id at after g b)
+    passes
   where
     differs : (x : ℕ) → belongs pages at b x ≡ true → x ≡ id → ⊥
     differs x i e = ne (sym (belongs_parts pages at b x i).hashed ∙ ap (λ (k : ℕ). bucket_of (path_in pages at k)) e)
@@ -219,14 +219,15 @@ leading_read pages at id l m lead =
     with_hit (coffer_entry pages id) 0 no_words (addr, next_in pages at id) addr (at addr) refl (λ k g h e. leading_apart pages at id l m lead k (omega arith) e)
 
 pub drop_is : DropLaw
-drop_is pages at after id passes has ne same keeps =
-    (gone,
-    free_rule pages after id gone ∙ ap (λ (n : ℕ). not (n == 0) || (id == 1)) cleared ∙ ne_eqb id 1 ne,
-    record {
-      others = λ other lo mo other_id. same_coffer pages at after other (others other lo mo other_id);
-      entries = others_pass pages at after id passes keeps others (λ other lo mo other_id s there. absurd (true≢false (sym there ∙ gone)));
-      buckets = went pages id at after goes lead passes;
-    })
+drop_is pages at after id passes has ne same keeps = (
+  gone,
+  free_rule pages after id gone ∙ ap (λ (n : ℕ). not (n == 0) || (id == 1)) cleared ∙ ne_eqb id 1 ne,
+  record {
+    others = λ other lo mo other_id. same_coffer pages at after other (others other lo mo other_id);
+    entries = others_pass pages at after id passes keeps others (λ other lo mo other_id s there. absurd (true≢false (sym there ∙ gone)));
+    buckets = went pages id at after goes lead passes;
+  },
+)
   where
     r : (1 ≤ id) × (id ≤ 256) × (stands_in pages at id ≡ true)
     r = coffer_is_there pages at id has
@@ -270,9 +271,9 @@ drop_is pages at after id passes has ne same keeps =
       others = others;
       past = led lead ∙ leading_read pages at id r.0 r.1 lead;
       nexts = λ other lo mo other_id elsewhere.
-        same.entries other 6 lo mo (omega arith)
-        ∙ other_read pages at id (word_of (coffer_entry pages other) 6) (apart other 6 lo other_id (omega arith)) (λ e. elsewhere (sym e));
+          same.entries other 6 lo mo (omega arith)
+          ∙ other_read pages at id (word_of (coffer_entry pages other) 6) (apart other 6 lo other_id (omega arith)) (λ e. elsewhere (sym e));
       buckets = λ b h elsewhere.
-        same.buckets b h
-        ∙ other_read pages at id (path_bucket pages b) (λ i g e. entry_not_bucket pages id i b r.0 r.1 g e) (λ e. elsewhere (sym e));
+          same.buckets b h
+          ∙ other_read pages at id (path_bucket pages b) (λ i g e. entry_not_bucket pages id i b r.0 r.1 g e) (λ e. elsewhere (sym e));
     }

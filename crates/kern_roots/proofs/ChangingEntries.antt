@@ -6,9 +6,9 @@ use Rattle.std.proofs.lemmas.Bool.{cases_Bool, cases_lt, and_parts, and_left, or
 use Rattle.zo_layout.specs.Layout.{word_of, coffer_entry, coffer_state, coffer_path_word, coffer_path_length}
 use Rattle.tr_types.specs.Paths.{same_text, is_path_text}
 use Rattle.tr_types.specs.KernelTables.{Coffer, owner_in, is_there, stands_in, path_bytes, path_in, coffer_in, all_ids, ids_in, is_mode, path_fails, pages_fail, path_stands_twice, coffer_fails, entry_fails}
-use Rattle.kern_roots.specs.Changes.{has_coffer}
+use Rattle.kern_roots.specs.Changes.{is_used}
 use Rattle.kern_roots.specs.Laws.{KeepsOwners}
-use Rattle.kern_roots.proofs.ChangingSearch.{there_at, not_there_at}
+use Rattle.kern_roots.proofs.ChangingSearch.{used_is, range_of}
 use Rattle.kern_roots.proofs.ChangingLayout.{first_word}
 use Rattle.kern_roots.proofs.ChangingLists.{id_in_all, all_are_ids, in_filter, from_filter, none_passes, not_passed}
 
@@ -34,7 +34,7 @@ flat_same f g (suc n) a each =
 same_bytes : (pages : ℕ) (at after : ℕ → ℕ) (id : ℕ) → SamePath pages at after id → path_bytes pages after id ≡ path_bytes pages at id
 same_bytes pages at after id same =
     flat_same (λ i. to_le_bytes w64 (after (coffer_path_word (coffer_entry pages id) i))) (λ i. to_le_bytes w64 (at (coffer_path_word (coffer_entry pages id) i))) 55 0
-      (λ k l h. ap (to_le_bytes w64) (same (9 + k) (omega arith) (omega arith)))
+    (λ k l h. ap (to_le_bytes w64) (same (9 + k) (omega arith) (omega arith)))
 
 pub same_path_in : (pages : ℕ) (at after : ℕ → ℕ) (id : ℕ) → SamePath pages at after id → path_in pages after id ≡ path_in pages at id
 same_path_in pages at after id same =
@@ -59,16 +59,8 @@ same_coffer pages at after id same =
     λ i. record { id = id; path = path i; perm = record { uid = uid i; gid = gid i; mode = mode i }; state = state i; kind = kind i; control = control i; root = root i }
 
 -- a number of a coffer that is there
-pub coffer_is_there : (pages : ℕ) (at : ℕ → ℕ) (id : ℕ) → has_coffer pages at id ≡ true → (1 ≤ id) × (id ≤ 256) × (stands_in pages at id ≡ true)
-coffer_is_there pages at id h = low (cases_lt id 1)
-  where
-    high : 1 ≤ id → (256 < id) ⊎ (id ≤ 256) → (1 ≤ id) × (id ≤ 256) × (stands_in pages at id ≡ true)
-    high l (inl m) = absurd (true≢false (sym h ∙ sym (not_there_at pages at id (inr (omega arith)))))
-    high l (inr m) = (l, m, there_at pages at id l m ∙ h)
-
-    low : (id < 1) ⊎ (1 ≤ id) → (1 ≤ id) × (id ≤ 256) × (stands_in pages at id ≡ true)
-    low (inl l) = absurd (true≢false (sym h ∙ sym (not_there_at pages at id (inl l))))
-    low (inr l) = high l (cases_lt 256 id)
+pub coffer_is_there : (pages : ℕ) (at : ℕ → ℕ) (id : ℕ) → is_used pages at id ≡ true → (1 ≤ id) × (id ≤ 256) × (stands_in pages at id ≡ true)
+coffer_is_there pages at id h = range_of pages at id (used_is pages at id ∙ h)
 
 -- That a path stands twice, coffer by coffer.
 
@@ -77,7 +69,7 @@ pub twice_from : (pages : ℕ) (at : ℕ → ℕ) (id : ℕ)
     → path_stands_twice pages at id ≡ false
 twice_from pages at id each =
     none_passes (λ x. not (x == id) && same_text (path_in pages at x) (path_in pages at id)) (ids_in pages at)
-      (λ x h. let parts = from_filter (stands_in pages at) all_ids x h in let r = all_are_ids x parts.0 in test x r.0 r.1 parts.1 (cases_eq x id))
+    (λ x h. let parts = from_filter (stands_in pages at) all_ids x h in let r = all_are_ids x parts.0 in test x r.0 r.1 parts.1 (cases_eq x id))
   where
     test : (x : ℕ) → 1 ≤ x → x ≤ 256 → stands_in pages at x ≡ true → (x ≡ id) ⊎ (x ≡ id → ⊥) → (not (x == id) && same_text (path_in pages at x) (path_in pages at id)) ≡ false
     test x l m s (inl e) = ap (λ (b : Bool). not b && same_text (path_in pages at x) (path_in pages at id)) (eq-eqb x id e)

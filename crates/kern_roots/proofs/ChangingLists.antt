@@ -100,3 +100,10 @@ not_passed p (y ∷ ys) x none h = by (in_cases x y ys h) (not_passed p ys x (or
     by : (x ≡ y) ⊎ (is_in_chain x ys ≡ true) → (is_in_chain x ys ≡ true → p x ≡ false) → p x ≡ false
     by (inl e) more = ap p e ∙ (or_parts (p y) (list_any p ys) none).0
     by (inr e) more = more e
+
+pub passes_one : (p : ℕ → Bool) (xs : List ℕ) (x : ℕ) → is_in_chain x xs ≡ true → p x ≡ true → list_any p xs ≡ true
+passes_one p xs x i t = by (cases_Bool (list_any p xs))
+  where
+    by : (list_any p xs ≡ true) ⊎ (list_any p xs ≡ false) → list_any p xs ≡ true
+    by (inl e) = e
+    by (inr e) = absurd (true≢false (sym t ∙ not_passed p xs x e i))

@@ -17,8 +17,8 @@ pub bucket_stays : (pages : ℕ) (at after : ℕ → ℕ) (bucket : ℕ) → aft
 bucket_stays pages at after bucket head next stay come passes =
     let h = holds_at pages at bucket passes in
     let chain : chain_in pages after bucket ≡ chain_in pages at bucket =
-        ap (chain_from (next_in pages after) longest_chain) head
-        ∙ same_chain (next_in pages at) (next_in pages after) longest_chain (at (path_bucket pages bucket)) (λ x i. next x (h.each x i)) in
+    ap (chain_from (next_in pages after) longest_chain) head
+    ∙ same_chain (next_in pages at) (next_in pages after) longest_chain (at (path_bucket pages bucket)) (λ x i. next x (h.each x i)) in
     holds_from pages after bucket (record {
       each = λ x i. stay x (h.each x (sym (ap (is_in_chain x) chain) ∙ i));
       once = ap none_twice chain ∙ h.once;
@@ -40,7 +40,7 @@ pushed pages at after bucket id some short head first same =
     let h = at (path_bucket pages bucket) in
     let all : chain_from f (suc 256) h ≡ chain_in pages at bucket = ap (λ (n : ℕ). chain_from f n h) (sym longest) in
     let fewer : chain_from f 256 h ≡ chain_in pages at bucket =
-        fewer_steps f 256 h (subst (λ (xs : List ℕ). length xs ≤ 256) (sym all) short) ∙ all in
+    fewer_steps f 256 h (subst (λ (xs : List ℕ). length xs ≤ 256) (sym all) short) ∙ all in
     ap (λ (n : ℕ). chain_from g n (after (path_bucket pages bucket))) longest
     ∙ ap (chain_from g (suc 256)) head
     ∙ step_is g 256 id some
@@ -58,7 +58,7 @@ leads_is pages place (c ∷ xs) id = by (cases_eq c id) (leads_is pages (coffer_
 
     by : (c ≡ id) ⊎ (c ≡ id → ⊥)
         → (leads_to pages (coffer_next (coffer_entry pages c)) xs id ≡ coffer_next (coffer_entry pages c))
-          ⊎ ((x : ℕ) × (is_in_chain x xs ≡ true) × (x ≡ id → ⊥) × (leads_to pages (coffer_next (coffer_entry pages c)) xs id ≡ coffer_next (coffer_entry pages x)))
+        ⊎ ((x : ℕ) × (is_in_chain x xs ≡ true) × (x ≡ id → ⊥) × (leads_to pages (coffer_next (coffer_entry pages c)) xs id ≡ coffer_next (coffer_entry pages x)))
         → (leads_to pages place (c ∷ xs) id ≡ place) ⊎ ((x : ℕ) × (is_in_chain x (c ∷ xs) ≡ true) × (x ≡ id → ⊥) × (leads_to pages place (c ∷ xs) id ≡ coffer_next (coffer_entry pages x)))
     by (inl e) more = inl (ap (λ (b : Bool). cond b place (leads_to pages (coffer_next (coffer_entry pages c)) xs id)) (eq-eqb c id e))
     by (inr ne) (inl e) = inr (c, in_first c xs, ne, step ne ∙ e)
@@ -108,20 +108,20 @@ leaves_first pages at after id n place head rest e is short l =
 leaves_later : (pages : ℕ) (at after : ℕ → ℕ) (id n place head : ℕ) (rest : List ℕ) → (head ≡ 0 → ⊥) → (head ≡ id → ⊥)
     → Leaves pages at after id place head (head ∷ rest)
     → (Leaves pages at after id (coffer_next (coffer_entry pages head)) (next_in pages at head) rest
-      → chain_from (next_in pages after) n (after (coffer_next (coffer_entry pages head))) ≡ without id rest)
+    → chain_from (next_in pages after) n (after (coffer_next (coffer_entry pages head))) ≡ without id rest)
     → chain_from (next_in pages after) (suc n) (after place) ≡ without id (head ∷ rest)
 leaves_later pages at after id n place head rest ne other l more =
     ap (chain_from (next_in pages after) (suc n)) (l.first (λ q. elsewhere (leads_is pages (coffer_next (coffer_entry pages head)) rest id) (q ∙ lead)))
     ∙ step_is (next_in pages after) n head ne
     ∙ ap (λ (xs : List ℕ). head ∷ xs) (more (record {
-        once = rest_once head rest l.once;
-        there = there (in_cases id head rest l.there);
-        past = ap after (sym lead) ∙ l.past;
-        next = λ x i differs_from apart_from. l.next x (in_rest x head rest i) differs_from (λ q. apart_from (q ∙ lead));
-        first = λ apart_from. l.next head (in_first head rest) other (λ q. apart_from (q ∙ lead));
-        apart = λ x i q. differs head x rest l.once i (l.single x head (in_rest x head rest i) (in_first head rest) q);
-        single = λ x y i j q. l.single x y (in_rest x head rest i) (in_rest y head rest j) q;
-      }))
+      once = rest_once head rest l.once;
+      there = there (in_cases id head rest l.there);
+      past = ap after (sym lead) ∙ l.past;
+      next = λ x i differs_from apart_from. l.next x (in_rest x head rest i) differs_from (λ q. apart_from (q ∙ lead));
+      first = λ apart_from. l.next head (in_first head rest) other (λ q. apart_from (q ∙ lead));
+      apart = λ x i q. differs head x rest l.once i (l.single x head (in_rest x head rest i) (in_first head rest) q);
+      single = λ x y i j q. l.single x y (in_rest x head rest i) (in_rest y head rest j) q;
+    }))
     ∙ sym (ap (λ (b : Bool). cond (not b) (head ∷ without id rest) (without id rest)) (ne_eqb head id other))
   where
     lead : leads_to pages place (head ∷ rest) id ≡ leads_to pages (coffer_next (coffer_entry pages head)) rest id
@@ -132,7 +132,7 @@ leaves_later pages at after id n place head rest ne other l more =
     there (inr i) = i
 
     elsewhere : (leads_to pages (coffer_next (coffer_entry pages head)) rest id ≡ coffer_next (coffer_entry pages head))
-          ⊎ ((x : ℕ) × (is_in_chain x rest ≡ true) × (x ≡ id → ⊥) × (leads_to pages (coffer_next (coffer_entry pages head)) rest id ≡ coffer_next (coffer_entry pages x)))
+        ⊎ ((x : ℕ) × (is_in_chain x rest ≡ true) × (x ≡ id → ⊥) × (leads_to pages (coffer_next (coffer_entry pages head)) rest id ≡ coffer_next (coffer_entry pages x)))
         → place ≡ leads_to pages (coffer_next (coffer_entry pages head)) rest id → ⊥
     elsewhere (inl e) q = l.apart head (in_first head rest) (sym (q ∙ e))
     elsewhere (inr (x, i, ne, e)) q = l.apart x (in_rest x head rest i) (sym (q ∙ e))
@@ -148,7 +148,7 @@ removed pages at after id (suc n) place head short l = by (cases_eq head 0) (cas
 
     by : (head ≡ 0) ⊎ (head ≡ 0 → ⊥) → (head ≡ id) ⊎ (head ≡ id → ⊥)
         → (length rest < n → Leaves pages at after id (coffer_next (coffer_entry pages head)) (next_in pages at head) rest
-          → chain_from (next_in pages after) n (after (coffer_next (coffer_entry pages head))) ≡ without id rest)
+        → chain_from (next_in pages after) n (after (coffer_next (coffer_entry pages head))) ≡ without id rest)
         → chain_from (next_in pages after) (suc n) (after place) ≡ without id (chain_from (next_in pages at) (suc n) head)
     by (inl z) o more = absurd (true≢false (sym l.there ∙ ap (is_in_chain id) (stop_is (next_in pages at) n head z)))
     by (inr ne) o more = end o

@@ -8,7 +8,7 @@ use Rattle.std.proofs.lemmas.List.FromFn.{map-range_with_len_more, length-map-ra
 use Rattle.zo_layout.specs.Layout.{word_of, coffer_entry, coffer_next, path_bucket, bucket_of}
 use Rattle.tr_types.specs.PathMap as paths
 use Rattle.kern_roots.specs.declared.types.Root.{Root}
-use Rattle.kern_roots.specs.Changes.{coffer_of}
+use Rattle.kern_roots.specs.Changes.{new_coffer}
 
 -- words in their places, from place n on
 abbrev pub placed : ℕ → ℕ → List ℕ → List (ℕ × ℕ)
@@ -112,7 +112,7 @@ entry_words_more text ws front i w e h =
 
 pub entry_words_are : (id next i : ℕ) (text : List ℕ) (given : Root) (ws front : List ℕ) → i ≡ 55
     → front ≡ given.state ∷ given.perm.uid ∷ given.perm.gid ∷ given.perm.mode ∷ given.control ∷ given.root ∷ next ∷ length text ∷ given.kind ∷ []
-    → ws ≡ front ++ map (text_word text) (range_with_len 0 i) → ws ≡ paths.entry_words (coffer_of id text given) next
+    → ws ≡ front ++ map (text_word text) (range_with_len 0 i) → ws ≡ paths.entry_words (new_coffer id text given) next
 entry_words_are id next i text given ws front e f h =
     h
     ∙ ap (λ (xs : List ℕ). xs ++ map (text_word text) (range_with_len 0 i)) f
@@ -126,10 +126,10 @@ length_entry_words i text ws front e f h =
 
 pub added_are : (pages : ℕ) (at : ℕ → ℕ) (id : ℕ) (text : List ℕ) (given : Root) (entry bucket last : ℕ) (ws : List ℕ) (first pairs : List (ℕ × ℕ))
     → entry ≡ coffer_entry pages id → bucket ≡ path_bucket pages (bucket_of text) → last ≡ id
-    → ws ≡ paths.entry_words (coffer_of id text given) (at bucket) → first ≡ paths.from_address entry ws → pairs ≡ first ++ (bucket, last) ∷ []
-    → pairs ≡ paths.added_pairs pages at (coffer_of id text given)
+    → ws ≡ paths.entry_words (new_coffer id text given) (at bucket) → first ≡ paths.from_address entry ws → pairs ≡ first ++ (bucket, last) ∷ []
+    → pairs ≡ paths.added_pairs pages at (new_coffer id text given)
 added_are pages at id text given entry bucket last ws first pairs is_entry is_bucket is_id is_ws is_first is =
-    let c = coffer_of id text given in
+    let c = new_coffer id text given in
     is
     ∙ ap (λ (ps : List (ℕ × ℕ)). ps ++ (bucket, last) ∷ []) is_first
     ∙ ap (λ (a : ℕ). paths.from_address a ws ++ (bucket, last) ∷ []) is_entry

@@ -1,10 +1,19 @@
 -- Which coffers there are: the numbers 1 to 256, one after another.
-use Rattle.std.proofs.Common.{◌≡◌, ℕ, zero, suc, ◌+◌, ◌-◌, ◌<◌, ◌≤◌, ◌⊎◌, List, [], ◌∷◌, map, filter, find, Bool, true, false, not, ◌&&◌, ◌||◌, cond, ◌==◌, Option, Some, None, is_some, refl, ap, sym, ◌∙◌, inl, inr, arith, eq-eqb, ne_eqb}
+use Rattle.std.proofs.Common.{◌≡◌, ℕ, suc, ◌+◌, ◌-◌, ◌<◌, ◌≤◌, ◌⊎◌, List, [], ◌∷◌, map, filter, find, nat_le, Bool, true, false, not, ◌&&◌, ◌||◌, cond, Option, Some, None, is_some, refl, ap, sym, ◌∙◌, inl, inr, arith}
 use Rattle.std.specs.List.{range_with_len, list_any}
-use Rattle.std.proofs.lemmas.Bool.{cases_eq, cases_lt}
-use Rattle.tr_types.specs.KernelTables.{all_ids, coffers_in, coffer_in, stands_in, path_in}
+use Rattle.std.proofs.lemmas.Bool.{cases_Bool, and_parts, and_from, and_left, and_right, le-leb, leb-true}
+use Rattle.pm_words.specs.Word.{Word}
+use Rattle.tr_types.specs.KernelView.{pages_of}
+use Rattle.tr_types.specs.Journal.{kernel_word}
+use Rattle.tr_types.specs.KernelTables.{all_ids, is_id, coffers_in, coffer_in, stands_in, path_in}
 use Rattle.tr_types.specs.PathMap.{coffer_at_path, coffer_with}
 use Rattle.tr_types.specs.Paths.{same_text}
+use Rattle.kern_roots.specs.Entries.{has_id}
+use Rattle.kern_roots.specs.Fronts.{IsCofferAt}
+use Rattle.kern_roots.specs.Changes.{is_taken, is_used}
+use Rattle.kern_roots.proofs.ReadingPaths.{same_when, differ_when}
+use Rattle.kern_roots.proofs.ReadingCoffers.{coffer_is, coffer_isnt}
+use Rattle.kern_roots.proofs.ChangingLists.{id_in_all, all_are_ids, none_passes, passes_one}
 
 -- the numbers from one on, as far as 256
 unfoldable pub ids_from : ℕ → List ℕ
@@ -22,7 +31,7 @@ ids_end : (i : ℕ) → 257 ≤ i → ids_from i ≡ []
 unfolding ids_from
 ids_end i h = let e : 257 - i ≡ 0 = omega arith in ap (range_with_len i) e
 
--- The first number that passes, and whether one does.
+-- The first number that passes.
 
 pub find_start : (test : ℕ → Bool) → find test (ids_from 1) ≡ find test all_ids
 find_start test = ap (find test) ids_start
@@ -35,18 +44,6 @@ find_miss test i h e = sym (ap (find test) (ids_step i h) ∙ ap (λ (b : Bool).
 
 pub find_end : (test : ℕ → Bool) (i : ℕ) → 257 ≤ i → find test (ids_from i) ≡ None
 find_end test i h = ap (find test) (ids_end i h)
-
-pub any_start : (test : ℕ → Bool) → list_any test (ids_from 1) ≡ list_any test all_ids
-any_start test = ap (list_any test) ids_start
-
-pub any_hit : (test : ℕ → Bool) (i : ℕ) → i < 257 → test i ≡ true → list_any test (ids_from i) ≡ true
-any_hit test i h e = ap (list_any test) (ids_step i h) ∙ ap (λ (b : Bool). b || list_any test (ids_from (i + 1))) e
-
-pub any_miss : (test : ℕ → Bool) (i : ℕ) → i < 257 → test i ≡ false → list_any test (ids_from (i + 1)) ≡ list_any test (ids_from i)
-any_miss test i h e = sym (ap (list_any test) (ids_step i h) ∙ ap (λ (b : Bool). b || list_any test (ids_from (i + 1))) e)
-
-pub any_end : (test : ℕ → Bool) (i : ℕ) → 257 ≤ i → list_any test (ids_from i) ≡ false
-any_end test i h = ap (list_any test) (ids_end i h)
 
 -- A search over the coffers that are there goes over their numbers.
 
@@ -75,65 +72,40 @@ taken_by_ids pages at path = find_kept (stands_in pages at) (coffer_in pages at)
 
 -- A coffer has a number exactly where it is one of 1 to 256, and its entry says so.
 
-and_true : (b : Bool) → (b && true) ≡ b
-and_true true = refl
-and_true false = refl
-
-and_false : (b : Bool) → (b && false) ≡ false
-and_false true = refl
-and_false false = refl
-
-or_false : (b : Bool) → (b || false) ≡ b
-or_false true = refl
-or_false false = refl
-
-none_in : (p : ℕ → Bool) (id n a : ℕ) → (id < a) ⊎ (a + n ≤ id) → list_any (λ i. p i && (i == id)) (range_with_len a n) ≡ false
-none_in p id zero a o = refl
-none_in p id (suc n) a o =
-    ap (λ (b : Bool). (p a && b) || list_any (λ i. p i && (i == id)) (range_with_len (a + 1) n)) (ne_eqb a id (other o))
-    ∙ ap (λ (b : Bool). b || list_any (λ i. p i && (i == id)) (range_with_len (a + 1) n)) (and_false (p a))
-    ∙ none_in p id n (a + 1) (next o)
+pub used_is : (pages : ℕ) (at : ℕ → ℕ) (id : ℕ) → has_id pages at id ≡ is_used pages at id
+used_is pages at id = by (has_id pages at id) refl
   where
-    other : (id < a) ⊎ (a + suc n ≤ id) → a ≡ id → ⊥
-    other (inl h) e = omega arith
-    other (inr h) e = omega arith
+    by : (b : Bool) → has_id pages at id ≡ b → has_id pages at id ≡ is_used pages at id
+    by true e = e ∙ sym (ap is_some (coffer_is pages at id e))
+    by false e = e ∙ sym (ap is_some (coffer_isnt pages at id e))
 
-    next : (id < a) ⊎ (a + suc n ≤ id) → (id < a + 1) ⊎ (a + 1 + n ≤ id)
-    next (inl h) = inl (omega arith)
-    next (inr h) = inr (omega arith)
+pub in_range : (pages : ℕ) (at : ℕ → ℕ) (id : ℕ) → 1 ≤ id → id ≤ 256 → has_id pages at id ≡ stands_in pages at id
+in_range pages at id l m = ap (λ (b : Bool). b && stands_in pages at id) (and_from (nat_le 1 id) (nat_le id 256) (le-leb 1 id l) (le-leb id 256 m))
 
-one_in : (p : ℕ → Bool) (id n a : ℕ) → a ≤ id → id < a + n → list_any (λ i. p i && (i == id)) (range_with_len a n) ≡ p id
-one_in p id zero a l h = absurd (omega arith)
-one_in p id (suc n) a l h = by (cases_eq a id) (λ ne. one_in p id n (a + 1) (omega arith) (omega arith))
+pub range_of : (pages : ℕ) (at : ℕ → ℕ) (id : ℕ) → has_id pages at id ≡ true → (1 ≤ id) × (id ≤ 256) × (stands_in pages at id ≡ true)
+range_of pages at id h =
+    let parts = and_parts (is_id id) (stands_in pages at id) h in
+    let range = and_parts (nat_le 1 id) (nat_le id 256) parts.0 in
+    (leb-true 1 id range.0, leb-true id 256 range.1, parts.1)
+
+pub there_at : (pages : ℕ) (at : ℕ → ℕ) (id : ℕ) → 1 ≤ id → id ≤ 256 → stands_in pages at id ≡ is_used pages at id
+there_at pages at id l m = sym (in_range pages at id l m) ∙ used_is pages at id
+
+-- What a search for the coffer of a path tells.
+pub taken_is : (words : List Word) (path : List ℕ) (r : Option ℕ) → IsCofferAt words path r → is_some r ≡ is_taken (pages_of words) (kernel_word words) path
+taken_is words path None none =
+    sym (taken_by_ids (pages_of words) (kernel_word words) path
+    ∙ none_passes (has_path_at (pages_of words) (kernel_word words) path) all_ids (λ x i. let r = all_are_ids x i in by x r.0 r.1 (cases_Bool (stands_in (pages_of words) (kernel_word words) x))))
   where
-    rest : Bool
-    rest = list_any (λ i. p i && (i == id)) (range_with_len (a + 1) n)
-
-    by : (a ≡ id) ⊎ (a ≡ id → ⊥) → ((a ≡ id → ⊥) → list_any (λ i. p i && (i == id)) (range_with_len (a + 1) n) ≡ p id)
-        → ((p a && (a == id)) || list_any (λ i. p i && (i == id)) (range_with_len (a + 1) n)) ≡ p id
-    by (inl e) more =
-        ap (λ (b : Bool). (p a && b) || list_any (λ i. p i && (i == id)) (range_with_len (a + 1) n)) (eq-eqb a id e)
-        ∙ ap (λ (b : Bool). b || list_any (λ i. p i && (i == id)) (range_with_len (a + 1) n)) (and_true (p a))
-        ∙ ap (λ (b : Bool). p a || b) (none_in p id n (a + 1) (inl (omega arith)))
-        ∙ or_false (p a)
-        ∙ ap p e
-    by (inr ne) more =
-        ap (λ (b : Bool). (p a && b) || list_any (λ i. p i && (i == id)) (range_with_len (a + 1) n)) (ne_eqb a id ne)
-        ∙ ap (λ (b : Bool). b || list_any (λ i. p i && (i == id)) (range_with_len (a + 1) n)) (and_false (p a))
-        ∙ more ne
-
-all_ids_range : all_ids ≡ range_with_len 1 256
-unfolding all_ids
-all_ids_range = refl
-
-pub there_at : (pages : ℕ) (at : ℕ → ℕ) (id : ℕ) → 1 ≤ id → id ≤ 256 → stands_in pages at id ≡ is_some (coffer_with (coffers_in pages at) id)
-there_at pages at id l m =
-    sym (find_kept (stands_in pages at) (coffer_in pages at) (λ c. c.id == id) all_ids
-    ∙ ap (list_any (λ i. stands_in pages at i && (i == id))) all_ids_range
-    ∙ one_in (stands_in pages at) id 256 1 l (omega arith))
-
-pub not_there_at : (pages : ℕ) (at : ℕ → ℕ) (id : ℕ) → (id < 1) ⊎ (257 ≤ id) → false ≡ is_some (coffer_with (coffers_in pages at) id)
-not_there_at pages at id o =
-    sym (find_kept (stands_in pages at) (coffer_in pages at) (λ c. c.id == id) all_ids
-    ∙ ap (list_any (λ i. stands_in pages at i && (i == id))) all_ids_range
-    ∙ none_in (stands_in pages at) id 256 1 o)
+    by : (x : ℕ) → 1 ≤ x → x ≤ 256 → (stands_in (pages_of words) (kernel_word words) x ≡ true) ⊎ (stands_in (pages_of words) (kernel_word words) x ≡ false)
+        → has_path_at (pages_of words) (kernel_word words) path x ≡ false
+    by x l m (inl s) =
+        and_right (stands_in (pages_of words) (kernel_word words) x) (same_text (path_in (pages_of words) (kernel_word words) x) path)
+        (differ_when (path_in (pages_of words) (kernel_word words) x) path (none x (in_range (pages_of words) (kernel_word words) x l m ∙ s)))
+    by x l m (inr s) = and_left (stands_in (pages_of words) (kernel_word words) x) (same_text (path_in (pages_of words) (kernel_word words) x) path) s
+taken_is words path (Some id) found =
+    let pages = pages_of words in
+    let at = kernel_word words in
+    let r = range_of pages at id found.0 in
+    sym (taken_by_ids pages at path ∙ passes_one (has_path_at pages at path) all_ids id (id_in_all id r.0 r.1)
+    (and_from (stands_in pages at id) (same_text (path_in pages at id) path) r.2 (same_when (path_in pages at id) path found.1)))

@@ -9,7 +9,7 @@ use Rattle.tr_types.specs.Journal.{laid_over}
 use Rattle.tr_types.specs.Kernel.{read_after}
 use Rattle.tr_types.specs.KernelTables.{Coffer, is_there, stands_in, path_in, coffer_in, path_stands_twice, entry_fails, bucket_fails, belongs}
 use Rattle.tr_types.specs.PathMap.{perm_pairs, state_pairs, root_pairs}
-use Rattle.kern_roots.specs.Changes.{has_coffer}
+use Rattle.kern_roots.specs.Changes.{is_used}
 use Rattle.kern_roots.specs.Laws.{PassesRoots, SameRoots, KeepsOwners, ChangesOne, PermLaw, StateLaw, RootLaw}
 use Rattle.kern_roots.proofs.ChangingSearch.{there_at}
 use Rattle.kern_roots.proofs.ChangingLayout.{first_word, word_in_part, same_entry_word, entry_not_bucket}
@@ -26,14 +26,14 @@ OthersStay pages id at after = (other : ℕ) → 1 ≤ other → other ≤ 256 �
 -- The others pass again, where none of them has the path that the changed one has.
 pub others_pass : (pages : ℕ) (at after : ℕ → ℕ) (id : ℕ) → PassesRoots pages at → KeepsOwners pages id at after → OthersStay pages id at after
     → ((other : ℕ) → 1 ≤ other → other ≤ 256 → (other ≡ id → ⊥) → stands_in pages at other ≡ true → stands_in pages after id ≡ true
-      → same_text (path_in pages after id) (path_in pages at other) ≡ false)
+    → same_text (path_in pages after id) (path_in pages at other) ≡ false)
     → (other : ℕ) → 1 ≤ other → other ≤ 256 → (other ≡ id → ⊥) → entry_fails pages after other ≡ false
 others_pass pages at after id passes keeps stay clash other l m ne =
     passes_again pages at after other (stay other l m ne)
-      (λ s. keeps.control other (sym (there_at pages at other l m) ∙ s) ne)
-      (λ s. keeps.root other (sym (there_at pages at other l m) ∙ s) ne)
-      (λ s none. twice_from pages after other (λ x lx mx sx differs. ap (same_text (path_in pages after x)) own ∙ pair s none x lx mx sx differs (cases_eq x id)))
-      (passes.entries other l m)
+    (λ s. keeps.control other (sym (there_at pages at other l m) ∙ s) ne)
+    (λ s. keeps.root other (sym (there_at pages at other l m) ∙ s) ne)
+    (λ s none. twice_from pages after other (λ x lx mx sx differs. ap (same_text (path_in pages after x)) own ∙ pair s none x lx mx sx differs (cases_eq x id)))
+    (passes.entries other l m)
   where
     own : path_in pages after other ≡ path_in pages at other
     own = same_path_in pages at after other (λ i g h. stay other l m ne i h (omega arith))
@@ -66,18 +66,18 @@ touched pages id at after passes keeps t = record {
   buckets = λ bucket h. bucket_stays pages at after bucket (t.buckets bucket h)
       (λ x b. let r = belongs_parts pages at bucket x b in next x r.least r.most (cases_eq x id))
       (λ x b. let r = belongs_parts pages at bucket x b in
-        let same = entry x r.least r.most (cases_eq x id) in
-        belongs_from pages after bucket x (record { least = r.least; most = r.most; there = same.0 ∙ r.there; hashed = ap bucket_of same.1 ∙ r.hashed }))
+      let same = entry x r.least r.most (cases_eq x id) in
+      belongs_from pages after bucket x (record { least = r.least; most = r.most; there = same.0 ∙ r.there; hashed = ap bucket_of same.1 ∙ r.hashed }))
       (λ x b. let r = belongs_parts pages after bucket x b in
-        let same = entry x r.least r.most (cases_eq x id) in
-        belongs_from pages at bucket x (record { least = r.least; most = r.most; there = sym same.0 ∙ r.there; hashed = ap bucket_of (sym same.1) ∙ r.hashed }))
+      let same = entry x r.least r.most (cases_eq x id) in
+      belongs_from pages at bucket x (record { least = r.least; most = r.most; there = sym same.0 ∙ r.there; hashed = ap bucket_of (sym same.1) ∙ r.hashed }))
       (passes.buckets bucket h);
 }
   where
     entry : (x : ℕ) → 1 ≤ x → x ≤ 256 → (x ≡ id) ⊎ (x ≡ id → ⊥) → (stands_in pages after x ≡ stands_in pages at x) × (path_in pages after x ≡ path_in pages at x)
     entry x l m (inl e) =
         subst (λ (k : ℕ). (stands_in pages after k ≡ stands_in pages at k) × (path_in pages after k ≡ path_in pages at k)) (sym e)
-          (t.there ∙ sym t.was, same_path_in pages at after id t.path)
+        (t.there ∙ sym t.was, same_path_in pages at after id t.path)
     entry x l m (inr ne) =
         (ap is_there (same_state pages at after x (t.others x l m ne)), same_path_in pages at after x (λ i g h. t.others x l m ne i h (omega arith)))
 
@@ -146,18 +146,19 @@ state_is pages at after id state passes has valid same keeps =
     let first = first_word entry in
     let w : Within pages id 0 1 (state_pairs pages id state) = ((0, omega arith, omega arith, sym first), tt) in
     let stay : (i : ℕ) → i < 64 → 1 ≤ i → after (word_of entry i) ≡ at (word_of entry i) =
-        λ i h g. rest_stays pages id 0 1 at after (state_pairs pages id state) r.0 r.1 (omega arith) w same i h (inr g) in
+    λ i h g. rest_stays pages id 0 1 at after (state_pairs pages id state) r.0 r.1 (omega arith) w same i h (inr g) in
     let new : after (coffer_state entry) ≡ state =
-        ap after (sym first) ∙ same.entries id 0 r.0 r.1 (omega arith) ∙ laid_one entry state (word_of entry 0) (at (word_of entry 0)) (sym first) in
+    ap after (sym first) ∙ same.entries id 0 r.0 r.1 (omega arith) ∙ laid_one entry state (word_of entry 0) (at (word_of entry 0)) (sym first) in
     let uid = stay 1 (omega arith) (omega arith) in
     let gid = stay 2 (omega arith) (omega arith) in
     let mode = stay 3 (omega arith) (omega arith) in
     let control = stay 4 (omega arith) (omega arith) in
     let root = stay 5 (omega arith) (omega arith) in
     let kind = stay 8 (omega arith) (omega arith) in
-    let path = same_path_in pages at after id (λ i g h. stay i h (omega arith)) in
-    (λ i. record { id = id; path = path i; perm = record { uid = uid i; gid = gid i; mode = mode i }; state = new i; kind = kind i; control = control i; root = root i },
-    touched pages id at after passes keeps (touches pages id 0 1 at after (state_pairs pages id state) r.0 r.1 (omega arith) w same r.2 (ap is_there new ∙ valid)))
+    let path = same_path_in pages at after id (λ i g h. stay i h (omega arith)) in (
+      λ i. record { id = id; path = path i; perm = record { uid = uid i; gid = gid i; mode = mode i }; state = new i; kind = kind i; control = control i; root = root i },
+      touched pages id at after passes keeps (touches pages id 0 1 at after (state_pairs pages id state) r.0 r.1 (omega arith) w same r.2 (ap is_there new ∙ valid)),
+    )
 
 pub root_is : RootLaw
 root_is pages at after id page passes has same keeps =
@@ -166,18 +167,19 @@ root_is pages at after id page passes has same keeps =
     let first = first_word entry in
     let w : Within pages id 5 6 (root_pairs pages id page) = ((5, omega arith, omega arith, refl), tt) in
     let stay : (i : ℕ) → i < 64 → (i < 5) ⊎ (6 ≤ i) → after (word_of entry i) ≡ at (word_of entry i) =
-        rest_stays pages id 5 6 at after (root_pairs pages id page) r.0 r.1 (omega arith) w same in
+    rest_stays pages id 5 6 at after (root_pairs pages id page) r.0 r.1 (omega arith) w same in
     let root : after (word_of entry 5) ≡ page =
-        same.entries id 5 r.0 r.1 (omega arith) ∙ laid_one (word_of entry 5) page (word_of entry 5) (at (word_of entry 5)) refl in
+    same.entries id 5 r.0 r.1 (omega arith) ∙ laid_one (word_of entry 5) page (word_of entry 5) (at (word_of entry 5)) refl in
     let state : after (coffer_state entry) ≡ at (coffer_state entry) = ap after (sym first) ∙ stay 0 (omega arith) (inl (omega arith)) ∙ ap at first in
     let uid = stay 1 (omega arith) (inl (omega arith)) in
     let gid = stay 2 (omega arith) (inl (omega arith)) in
     let mode = stay 3 (omega arith) (inl (omega arith)) in
     let control = stay 4 (omega arith) (inl (omega arith)) in
     let kind = stay 8 (omega arith) (inr (omega arith)) in
-    let path = same_path_in pages at after id (λ i g h. stay i h (inr (omega arith))) in
-    (λ i. record { id = id; path = path i; perm = record { uid = uid i; gid = gid i; mode = mode i }; state = state i; kind = kind i; control = control i; root = root i },
-    touched pages id at after passes keeps (touches pages id 5 6 at after (root_pairs pages id page) r.0 r.1 (omega arith) w same r.2 (ap is_there state ∙ r.2)))
+    let path = same_path_in pages at after id (λ i g h. stay i h (inr (omega arith))) in (
+      λ i. record { id = id; path = path i; perm = record { uid = uid i; gid = gid i; mode = mode i }; state = state i; kind = kind i; control = control i; root = root i },
+      touched pages id at after passes keeps (touches pages id 5 6 at after (root_pairs pages id page) r.0 r.1 (omega arith) w same r.2 (ap is_there state ∙ r.2)),
+    )
 
 pub perm_is : PermLaw
 perm_is pages at after id perm passes has same keeps =
@@ -186,14 +188,14 @@ perm_is pages at after id perm passes has same keeps =
     let first = first_word entry in
     let ws = perm.uid ∷ perm.gid ∷ perm.mode ∷ [] in
     let w : Within pages id 1 4 (perm_pairs pages id perm) =
-        ((1, omega arith, omega arith, word_in_part entry 1 0), ((2, omega arith, omega arith, word_in_part entry 1 1), ((3, omega arith, omega arith, word_in_part entry 1 2), tt))) in
+    ((1, omega arith, omega arith, word_in_part entry 1 0), ((2, omega arith, omega arith, word_in_part entry 1 1), ((3, omega arith, omega arith, word_in_part entry 1 2), tt))) in
     let stay : (i : ℕ) → i < 64 → (i < 1) ⊎ (4 ≤ i) → after (word_of entry i) ≡ at (word_of entry i) =
-        rest_stays pages id 1 4 at after (perm_pairs pages id perm) r.0 r.1 (omega arith) w same in
+    rest_stays pages id 1 4 at after (perm_pairs pages id perm) r.0 r.1 (omega arith) w same in
     let new : (k : ℕ) → k < 3 → after (word_of entry (1 + k)) ≡ get_or ws k 0 =
-        λ k h.
-          same.entries id (1 + k) r.0 r.1 (omega arith)
-          ∙ ap (read_after (perm_pairs pages id perm) at) (sym (word_in_part entry 1 k))
-          ∙ laid_hit (word_of entry 1) ws k (at (word_of (word_of entry 1) k)) 0 h in
+    λ k h.
+    same.entries id (1 + k) r.0 r.1 (omega arith)
+    ∙ ap (read_after (perm_pairs pages id perm) at) (sym (word_in_part entry 1 k))
+    ∙ laid_hit (word_of entry 1) ws k (at (word_of (word_of entry 1) k)) 0 h in
     let state : after (coffer_state entry) ≡ at (coffer_state entry) = ap after (sym first) ∙ stay 0 (omega arith) (inl (omega arith)) ∙ ap at first in
     let uid : after (word_of entry 1) ≡ perm.uid = new 0 (omega arith) in
     let gid : after (word_of entry 2) ≡ perm.gid = new 1 (omega arith) in
@@ -201,6 +203,7 @@ perm_is pages at after id perm passes has same keeps =
     let control = stay 4 (omega arith) (inr (omega arith)) in
     let root = stay 5 (omega arith) (inr (omega arith)) in
     let kind = stay 8 (omega arith) (inr (omega arith)) in
-    let path = same_path_in pages at after id (λ i g h. stay i h (inr (omega arith))) in
-    (λ i. record { id = id; path = path i; perm = record { uid = uid i; gid = gid i; mode = mode i }; state = state i; kind = kind i; control = control i; root = root i },
-    touched pages id at after passes keeps (touches pages id 1 4 at after (perm_pairs pages id perm) r.0 r.1 (omega arith) w same r.2 (ap is_there state ∙ r.2)))
+    let path = same_path_in pages at after id (λ i g h. stay i h (inr (omega arith))) in (
+      λ i. record { id = id; path = path i; perm = record { uid = uid i; gid = gid i; mode = mode i }; state = state i; kind = kind i; control = control i; root = root i },
+      touched pages id at after passes keeps (touches pages id 1 4 at after (perm_pairs pages id perm) r.0 r.1 (omega arith) w same r.2 (ap is_there state ∙ r.2)),
+    )

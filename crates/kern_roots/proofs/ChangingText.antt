@@ -97,7 +97,7 @@ length_chunk text i =
 pub word_bytes : (text : List ℕ) (i : ℕ) → is_path_text text ≡ true → to_le_bytes w64 (text_word text i) ≡ chunk text i
 word_bytes text i h =
     le_bytes_8 (chunk text i) (text_word text i) (length_chunk text i)
-      (λ k. cut_small 8 (drop (8 * i) text ++ replicate 8 0) k (padded_at (drop (8 * i) text) 8 k (rest_small (8 * i) text (small_path text h)))) refl
+    (λ k. cut_small 8 (drop (8 * i) text ++ replicate 8 0) k (padded_at (drop (8 * i) text) 8 k (rest_small (8 * i) text (small_path text h)))) refl
 
 take_past : (xs ys : List ℕ) (m : ℕ) → take (length xs + m) (xs ++ ys) ≡ xs ++ take m ys
 take_past [] ys m = let e : 0 + m ≡ m = omega arith in ap (λ (k : ℕ). take k ys) e

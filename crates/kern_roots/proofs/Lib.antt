@@ -1,3 +1,12 @@
+pub mod ReadingSound
+pub mod ReadingPieces
+pub mod ReadingPaths
+pub mod ReadingLists
+pub mod ReadingCoffers
+pub mod ReadingChains
+pub mod ReadingTexts
+pub mod ReadingFronts
+pub mod ReadingChildren
 -- which coffers there are, number by number
 mod ChangingSearch
 -- lists of pairs, and the words of an entry

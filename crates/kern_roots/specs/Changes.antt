@@ -12,12 +12,12 @@ abbrev pub is_taken : ℕ → (ℕ → ℕ) → List ℕ → Bool
 is_taken pages at path = is_some (coffer_at_path (coffers_in pages at) path)
 
 -- a coffer has the number
-abbrev pub has_coffer : ℕ → (ℕ → ℕ) → ℕ → Bool
-has_coffer pages at id = is_some (coffer_with (coffers_in pages at) id)
+abbrev pub is_used : ℕ → (ℕ → ℕ) → ℕ → Bool
+is_used pages at id = is_some (coffer_with (coffers_in pages at) id)
 
 -- the coffer of a number and a path
-abbrev pub coffer_of : ℕ → List ℕ → Root → Coffer
-coffer_of id path given = record {
+abbrev pub new_coffer : ℕ → List ℕ → Root → Coffer
+new_coffer id path given = record {
   id = id;
   path = path;
   perm = given.perm;
@@ -31,7 +31,7 @@ coffer_of id path given = record {
 -- TooMany.
 abbrev pub Adds : ℕ → (ℕ → ℕ) → List ℕ → Root → Result (ℕ × List (ℕ × ℕ)) RootsFault → Type 0
 Adds pages at path given (Ok made) =
-    (is_taken pages at path ≡ false) × (free_id pages at ≡ Some made.0) × (made.1 ≡ added_pairs pages at (coffer_of made.0 path given))
+    (is_taken pages at path ≡ false) × (free_id pages at ≡ Some made.0) × (made.1 ≡ added_pairs pages at (new_coffer made.0 path given))
 Adds pages at path given (Err Taken) = is_taken pages at path ≡ true
 Adds pages at path given (Err TooMany) = (is_taken pages at path ≡ false) × (free_id pages at ≡ None)
 Adds pages at path given (Err NoCoffer) = ⊥
@@ -39,7 +39,7 @@ Adds pages at path given (Err NoMemory) = ⊤
 
 -- what is answered where the coffer of a number is to change by these pairs
 abbrev pub Changes : ℕ → (ℕ → ℕ) → ℕ → List (ℕ × ℕ) → Result (List (ℕ × ℕ)) RootsFault → Type 0
-Changes pages at id pairs (Ok made) = (has_coffer pages at id ≡ true) × (made ≡ pairs)
-Changes pages at id pairs (Err NoCoffer) = has_coffer pages at id ≡ false
+Changes pages at id pairs (Ok made) = (is_used pages at id ≡ true) × (made ≡ pairs)
+Changes pages at id pairs (Err NoCoffer) = is_used pages at id ≡ false
 Changes pages at id pairs (Err NoMemory) = ⊤
 Changes pages at id pairs (Err other) = ⊥

@@ -6,7 +6,7 @@ use Rattle.tr_types.specs.Paths.{is_path_text}
 use Rattle.tr_types.specs.Kernel.{read_after}
 use Rattle.tr_types.specs.KernelTables.{Coffer, owner_in, is_there, stands_in, coffer_in, entry_fails, bucket_fails}
 use Rattle.tr_types.specs.PathMap.{free_id, added_pairs, dropped_pairs, perm_pairs, state_pairs, root_pairs}
-use Rattle.kern_roots.specs.Changes.{is_taken, has_coffer}
+use Rattle.kern_roots.specs.Changes.{is_taken, is_used}
 
 -- No rule of the table's entries and of the path buckets fails.
 pub record PassesRoots (pages : ℕ) (at : ℕ → ℕ) : Type 0 where
@@ -20,9 +20,9 @@ pub record SameRoots (pages : ℕ) (at after : ℕ → ℕ) : Type 0 where
 
 -- The control page and the root page of each coffer but one have the owners that they had.
 pub record KeepsOwners (pages id : ℕ) (at after : ℕ → ℕ) : Type 0 where
-  pub control : (other : ℕ) → has_coffer pages at other ≡ true → other ≢ id
+  pub control : (other : ℕ) → is_used pages at other ≡ true → other ≢ id
       → owner_in pages after (coffer_in pages at other).control ≡ owner_in pages at (coffer_in pages at other).control
-  pub root : (other : ℕ) → has_coffer pages at other ≡ true → other ≢ id
+  pub root : (other : ℕ) → is_used pages at other ≡ true → other ≢ id
       → owner_in pages after (coffer_in pages at other).root ≡ owner_in pages at (coffer_in pages at other).root
 
 -- A change of one entry: the others say what they said, and pass, and the buckets pass. So where that entry passes too,
@@ -49,7 +49,7 @@ AddLaw =
 -- Any coffer but the root coffer can go.
 abbrev pub DropLaw : Type 0
 DropLaw =
-    (pages : ℕ) (at after : ℕ → ℕ) (id : ℕ) → PassesRoots pages at → has_coffer pages at id ≡ true → id ≢ 1
+    (pages : ℕ) (at after : ℕ → ℕ) (id : ℕ) → PassesRoots pages at → is_used pages at id ≡ true → id ≢ 1
     → SameRoots pages (read_after (dropped_pairs pages at id) at) after → KeepsOwners pages id at after
     → (stands_in pages after id ≡ false) × (entry_fails pages after id ≡ false) × ChangesOne pages id at after
 
@@ -66,18 +66,18 @@ with_root root c = record c { root = root }
 
 abbrev pub PermLaw : Type 0
 PermLaw =
-    (pages : ℕ) (at after : ℕ → ℕ) (id : ℕ) (perm : Perm) → PassesRoots pages at → has_coffer pages at id ≡ true
+    (pages : ℕ) (at after : ℕ → ℕ) (id : ℕ) (perm : Perm) → PassesRoots pages at → is_used pages at id ≡ true
     → SameRoots pages (read_after (perm_pairs pages id perm) at) after → KeepsOwners pages id at after
     → (coffer_in pages after id ≡ with_perm perm (coffer_in pages at id)) × ChangesOne pages id at after
 
 abbrev pub StateLaw : Type 0
 StateLaw =
-    (pages : ℕ) (at after : ℕ → ℕ) (id state : ℕ) → PassesRoots pages at → has_coffer pages at id ≡ true → is_there state ≡ true
+    (pages : ℕ) (at after : ℕ → ℕ) (id state : ℕ) → PassesRoots pages at → is_used pages at id ≡ true → is_there state ≡ true
     → SameRoots pages (read_after (state_pairs pages id state) at) after → KeepsOwners pages id at after
     → (coffer_in pages after id ≡ with_state state (coffer_in pages at id)) × ChangesOne pages id at after
 
 abbrev pub RootLaw : Type 0
 RootLaw =
-    (pages : ℕ) (at after : ℕ → ℕ) (id root : ℕ) → PassesRoots pages at → has_coffer pages at id ≡ true
+    (pages : ℕ) (at after : ℕ → ℕ) (id root : ℕ) → PassesRoots pages at → is_used pages at id ≡ true
     → SameRoots pages (read_after (root_pairs pages id root) at) after → KeepsOwners pages id at after
     → (coffer_in pages after id ≡ with_root root (coffer_in pages at id)) × ChangesOne pages id at after

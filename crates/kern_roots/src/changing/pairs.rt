@@ -3,16 +3,21 @@ ghost use Rattle.std.specs.Prelude.{◌≡◌, ◌+◌, ◌*◌, ◌<◌, ◌≤
 ghost use Rattle.std.specs.List.{position_or_len};
 ghost use Rattle.std.specs.Int.{w64, from_le_bytes};
 ghost use Rattle.tr_types.specs.PathMap as map;
-ghost use Rattle.kern_roots.specs.Changes.{coffer_of};
+ghost use Rattle.kern_roots.specs.Changes.{new_coffer};
 
-use crate::Root;
-use crate::table::{ENTRY_WORDS, PATH_WORDS};
+use crate::types::Root;
 use std::alloc::{AllocError, Global};
 use zo_layout::word_of;
 
+/// Words of an entry.
+const ENTRY_WORDS: usize = 64;
+
+/// Words of an entry in which the path stands: the last ones.
+const PATH_WORDS: usize = 55;
+
 /// These words in their places from an address on.
 pub fn from_address(alloc: Global, start: u64, ws: &[u64]) -> Result<Vec<(u64, u64)>, AllocError>
-    requires near { start < 2 ^ 40 }
+    requires near { start < 2 ^ 61 }
     requires few { length ws.now < 2 ^ 40 }
     ensures { IfOk result (λ pairs. pairs.items ≡ map.from_address start ws.now) }
 {
@@ -25,7 +30,7 @@ pub fn from_address(alloc: Global, start: u64, ws: &[u64]) -> Result<Vec<(u64, u
 
 /// Zeros for all words of an entry.
 pub fn cleared(alloc: Global, entry: u64) -> Result<Vec<(u64, u64)>, AllocError>
-    requires { entry < 2 ^ 40 }
+    requires { entry < 2 ^ 60 }
     ensures { IfOk result (λ pairs. pairs.items ≡ map.from_address entry map.no_words) }
 {
     from_address(alloc, entry, &[0; ENTRY_WORDS])
@@ -54,7 +59,7 @@ pub fn entry_words(
     root: &Root,
     next: u64,
 ) -> Result<Vec<u64>, AllocError>
-    ensures words { (id : ℕ) → IfOk result (λ ws. ws.items ≡ map.entry_words (coffer_of id path.now root.now) next) }
+    ensures words { (id : ℕ) → IfOk result (λ ws. ws.items ≡ map.entry_words (new_coffer id path.now root.now) next) }
     ensures length { IfOk result (λ ws. length ws.items ≡ 64) }
 {
     let mut ws = Vec::from_slice(alloc, &fields(root, next, path.len() as u64))?;
