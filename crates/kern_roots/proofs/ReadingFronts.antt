@@ -1,7 +1,7 @@
 -- The longest coffer of a path's fronts is the coffer of the path.
 use Rattle.std.proofs.Common.{◌≡◌, ◌⊎◌, inl, inr, ℕ, ◌-◌, ◌<◌, ◌≤◌, Bool, true, false, not, List, ◌∷◌, length, take, filter, get_or, Option, Some, None, refl, sym, ap, ◌∙◌, arith}
-use Rattle.std.specs.Prelude.{nat_le, ◌&&◌, codes}
-use Rattle.std.proofs.lemmas.Bool.{and_parts, and_from, cases_lt, le-leb, lt-leb, leb-true, not_from_false}
+use Rattle.std.specs.Prelude.{nat_le, ◌&&◌, codes, nat_eq, ◌||◌}
+use Rattle.std.proofs.lemmas.Bool.{and_parts, and_from, cases_lt, le-leb, lt-leb, leb-true, not_from_false, or_cases, or_left, or_right, eqb-true, eq-eqb}
 use Rattle.std.proofs.lemmas.List.{length-take-le, length-append}
 use Rattle.std.proofs.lemmas.List.Elements.{filter_agree}
 use Rattle.std.proofs.lemmas.Slice.Eq.{bytes_eq-Decides}
@@ -14,7 +14,7 @@ use Rattle.tr_types.specs.KernelRules.{IsSoundKernel}
 use Rattle.tr_types.specs.KernelTables.{Coffer, stands_in, coffer_in}
 use Rattle.tr_types.specs.PathMap.{longest, coffer_of_path, coffer_above}
 use Rattle.kern_roots.specs.Entries.{has_coffer, path_of, coffer_of}
-use Rattle.kern_roots.specs.Fronts.{IsCofferAt, IsCofferAtFront, coffer_within}
+use Rattle.kern_roots.specs.Fronts.{IsCofferAt, IsCofferAtFront, coffer_within, ends_name}
 use Rattle.kern_roots.proofs.ReadingSound.{sound_entry, root_is_there}
 use Rattle.kern_roots.proofs.ReadingPaths.{same_when, differ_when}
 use Rattle.kern_roots.proofs.ReadingLists.{IsListed, longest_listed, longest_first}
@@ -177,3 +177,15 @@ pub tells_front : (words : List Word) (path : List ℕ) (end : ℕ) (found : Opt
     → IsCofferAtFront words path end found
 tells_front words path end None two within ends none = missed_front words path end two none
 tells_front words path end (Some id) two within ends at = met_front words path end id within ends at
+
+-- what the test of a name's end tells
+pub ends_at : (path : List ℕ) (end : ℕ) → ends_name path end ≡ true → EndsAt path end
+ends_at path end is = by (or_cases (nat_eq end (length path)) (nat_eq (get_or path end 0) 47) is)
+  where
+    by : (nat_eq end (length path) ≡ true) ⊎ (nat_eq (get_or path end 0) 47 ≡ true) → EndsAt path end
+    by (inl whole) = inl (eqb-true end (length path) whole)
+    by (inr slash_at) = inr (eqb-true (get_or path end 0) 47 slash_at)
+
+pub ends_not : (path : List ℕ) (end : ℕ) → ends_name path end ≡ false → EndsAt path end → ⊥
+ends_not path end is (inl whole) = let both : true ≡ false = sym (or_left (nat_eq end (length path)) (nat_eq (get_or path end 0) 47) (eq-eqb end (length path) whole)) ∙ is in cc
+ends_not path end is (inr slash_at) = let both : true ≡ false = sym (or_right (nat_eq end (length path)) (nat_eq (get_or path end 0) 47) (eq-eqb (get_or path end 0) 47 slash_at)) ∙ is in cc

@@ -1,11 +1,15 @@
 -- Looking for the coffer of a path by the path's fronts.
-use Rattle.std.specs.Prelude.{◌≡◌, ◌≢◌, ℕ, List, length, take, filter, Bool, true, Option, Some, None, ◌&&◌, nat_le}
+use Rattle.std.specs.Prelude.{◌≡◌, ◌≢◌, ℕ, List, length, take, filter, Bool, true, Option, Some, None, ◌&&◌, ◌||◌, ◌==◌, nat_le, slice_index}
 use Rattle.pm_words.specs.Word.{Word}
 use Rattle.tr_types.specs.Paths.{begins_with}
 use Rattle.tr_types.specs.Kernel.{coffers}
 use Rattle.tr_types.specs.KernelTables.{Coffer}
 use Rattle.tr_types.specs.PathMap.{longest, is_coffer, coffer_above}
 use Rattle.kern_roots.specs.Entries.{has_coffer, path_of}
+
+-- a name of a path ends before the byte at a place: the path ends there too, or the byte is a `/`
+abbrev pub ends_name : List ℕ → ℕ → Bool
+ends_name path end = (end == length path) || (slice_index path end == 47)
 
 -- the number of the coffer that has just this path
 abbrev pub IsCofferAt : List Word → List ℕ → Option ℕ → Type 0

@@ -52,10 +52,21 @@ fn coffer_at_front(words: &Words, path: &[u8], end: usize) -> Option<u16>
     requires most { end ≤ length path.now }
     ensures { spec.IsCofferAtFront words.now path.now end result }
 {
-    if end < path.len() && path[end] != b'/' {
+    if !ends_name(path, end) {
         return None;
     }
     coffer_at(words, &path[..end])
+}
+
+// Whether a name of a path ends before the byte at `end`.
+fn ends_name(path: &[u8], end: usize) -> bool
+    requires { end ≤ length path.now }
+    ensures { result ≡ spec.ends_name path.now end }
+{
+    if end == path.len() {
+        return true;
+    }
+    path[end] == b'/'
 }
 
 /// The coffer that has just this path.
