@@ -140,3 +140,6 @@ fn dropped_pairs(alloc: Global, words: &Words, id: u16) -> Result<Pairs, AllocEr
     put_pair(&mut pairs, (lead, next_of(words, id)))?;
     Ok(Items::from_vec(pairs))
 }
+
+#[cfg(test)]
+mod tests;
