@@ -4,3 +4,7 @@ pub mod Reading
 pub mod Entries
 -- looking for the coffer of a path
 pub mod Fronts
+-- what the calls that change the coffer table answer
+pub mod Changes
+-- what the changes leave
+pub mod Laws

@@ -5,8 +5,12 @@
 //! is there as one that stands.
 #![tactic(auto)]
 
+mod changing;
+mod laws;
 mod reading;
 mod types;
 
+pub use changing::{add, drop_entry, set_perm, set_root, set_state};
+pub use laws::{add_law, drop_law, perm_law, root_law, state_law};
 pub use reading::{children, entry_of, find, path_of};
-pub use types::{Found, Root, RootsFault};
+pub use types::{Found, Pairs, Root, RootsFault};

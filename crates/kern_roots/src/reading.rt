@@ -8,8 +8,8 @@ ghost use Rattle.tr_types.specs.PathMap.{coffer_of_path, coffer_with, children_o
 ghost use Rattle.kern_roots.specs.Reading.{root_of, found_of, IsRefused};
 ghost use Rattle.kern_roots.specs.Fronts.{is_child_of};
 
-mod entry;
-mod fronts;
+pub mod entry;
+pub mod fronts;
 
 use crate::types::{Found, Root, RootsFault};
 use entry::{IDS, is_there, read_path, read_root};

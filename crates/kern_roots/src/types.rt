@@ -2,9 +2,13 @@
 ghost use Rattle.std.specs.Prelude.{◌≡◌};
 ghost use Rattle.kern_roots.specs.declared.types.RootsFault.TheVariants.{NoMemory};
 
+use sqlite_items::Items;
 use std::alloc::AllocError;
 use thiserror::Error;
 use tr_types::Perm;
+
+/// Words to be stored: the byte address of each, and the word that goes there.
+pub type Pairs = Items<(u64, u64)>;
 
 /// The coffer that a path lies in: whether the path is the coffer's own, and the length of the coffer's
 /// path in bytes.

@@ -78,10 +78,14 @@ abbrev pub with_pair : (ℕ × ℕ) → List (ℕ × ℕ) → List (ℕ × ℕ)
 with_pair p [] = p ∷ []
 with_pair p (q ∷ qs) = if nat_lt p.0 q.0 then p ∷ q ∷ qs else q ∷ with_pair p qs
 
+-- the 64 words of an entry in which no coffer stands
+unfoldable pub no_words : List ℕ
+no_words = replicate 64 0
+
 -- A coffer that goes leaves the chain, and all words of its entry become 0.
 abbrev pub dropped_pairs : ℕ → (ℕ → ℕ) → ℕ → List (ℕ × ℕ)
 dropped_pairs pages at id =
-    with_pair (leading_word pages at id, at (coffer_next (coffer_entry pages id))) (from_address (coffer_entry pages id) (replicate 64 0))
+    with_pair (leading_word pages at id, at (coffer_next (coffer_entry pages id))) (from_address (coffer_entry pages id) no_words)
 
 -- the words of a permission: 1 to 3 of the entry
 abbrev pub perm_pairs : ℕ → ℕ → Perm → List (ℕ × ℕ)

@@ -36,8 +36,8 @@ pub fn read(words: &Words, addr: u64) -> u64
     kern_journal::kernel_word(words, addr)
 }
 
-// The address of a coffer's entry.
-fn entry_at(words: &Words, id: u16) -> u64
+/// The address of a coffer's entry.
+pub fn entry_at(words: &Words, id: u16) -> u64
     requires least { 1 ≤ id }
     ensures at { result ≡ layout.coffer_entry (pages_of words.now) id }
     ensures near { result < 2 ^ 60 }

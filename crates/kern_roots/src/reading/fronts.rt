@@ -13,8 +13,8 @@ use zo_layout::{bucket_of, path_bucket};
 /// The number of the root coffer, whose path is `/`.
 pub const ROOT: u16 = 1;
 
-/// More coffers than a bucket can have.
-const LONGEST_CHAIN: u16 = 257;
+/// More coffers than a chain can have.
+pub const LONGEST_CHAIN: u16 = 257;
 
 /// A coffer whose path is the first `end` bytes of another path.
 #[derive(Clone, Copy, Debug)]
