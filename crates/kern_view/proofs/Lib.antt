@@ -1,0 +1,2 @@
+-- what stands between slashes, as a split gives it
+pub mod PathLemmas
