@@ -1,2 +1,6 @@
 -- what stands between slashes, as a split gives it
 pub mod PathLemmas
+-- pairs that are laid over words
+pub mod LaidLemmas
+-- pairs that can be finished
+pub mod TargetLemmas

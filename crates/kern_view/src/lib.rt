@@ -1,6 +1,9 @@
 //! What the kernel's pages say, and whether they say it rightly.
 #![tactic(auto)]
 
+mod overlay;
 mod paths;
+mod superblock;
+mod view;
 
 pub use paths::is_path_text;

@@ -1,0 +1,2 @@
+-- values laid over words
+pub mod Reads
