@@ -4,3 +4,5 @@ pub mod PathLemmas
 pub mod LaidLemmas
 -- pairs that can be finished
 pub mod TargetLemmas
+-- the paths of all coffers, by their numbers
+pub mod ReadLemmas

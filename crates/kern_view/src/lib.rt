@@ -1,9 +1,11 @@
 //! What the kernel's pages say, and whether they say it rightly.
 #![tactic(auto)]
 
+mod hashed;
 mod overlay;
 mod paths;
 mod superblock;
+mod tables;
 mod view;
 
 pub use paths::is_path_text;

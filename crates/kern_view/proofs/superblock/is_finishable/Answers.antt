@@ -11,22 +11,24 @@ pub returns-then-not-is_target : goal.returns-then-not-is_target
 returns-then-not-is_target c =
     let words = c.args.words.now in
     let count : c.load-count.result ≡ committed_count words =
-        c.load-count.ensures.value ∙ ap (λ (addr : ℕ). (word_at words addr).present) c.committed_word.ensures in
+    c.load-count.ensures.value ∙ ap (λ (addr : ℕ). (word_at words addr).present) c.committed_word.ensures in
     let lt : c.loop-i.i < committed_count words = subst (λ (n : ℕ). c.loop-i.i < n) count c.loop-i-test.true in
     let at : c.load.result ≡ (word_at words (pair_address c.loop-i.i)).present =
-        c.load.ensures.value ∙ ap (λ (addr : ℕ). (word_at words addr).present) c.pair_address.ensures in
-    (λ never. absurd (cc), λ finishable.
-        sym c.if-not-is_target.true ∙ c.is_target.ensures.1 (subst (IsTarget words) (sym at) (target_from words finishable c.loop-i.i lt)))
+    c.load.ensures.value ∙ ap (λ (addr : ℕ). (word_at words addr).present) c.pair_address.ensures in (
+      λ never. absurd (cc),
+      λ finishable.
+          sym c.if-not-is_target.true ∙ c.is_target.ensures.1 (subst (IsTarget words) (sym at) (target_from words finishable c.loop-i.i lt)),
+    )
 
 pub returns : goal.returns
 returns c =
     let words = c.args.words.now in
     let count : c.load-count.result ≡ committed_count words =
-        c.load-count.ensures.value ∙ ap (λ (addr : ℕ). (word_at words addr).present) c.committed_word.ensures in
+    c.load-count.ensures.value ∙ ap (λ (addr : ℕ). (word_at words addr).present) c.committed_word.ensures in
     let pages : c.pages-pages.result ≡ pages_of words =
-        let len : length words ≡ 512 * c.pages-pages.result = c.pages-pages.ensures.pages in omega arith in
+    let len : length words ≡ 512 * c.pages-pages.result = c.pages-pages.ensures.pages in omega arith in
     let capacity : c.from.result ≡ pair_capacity (pages_of words) = c.from.ensures ∙ c.pair_capacity.ensures ∙ ap pair_capacity pages in
     let room : committed_count words ≤ pair_capacity (pages_of words) = omega (arith, count, capacity) in
     let each : (k : ℕ) → k < committed_count words → IsTarget words (word_at words (pair_address k)).present =
-        λ k lt. c.loop-i.invariant k (omega (arith, count)) in
+    λ k lt. c.loop-i.invariant k (omega (arith, count)) in
     (λ _. finishable_from words room each, λ _. refl)
