@@ -6,3 +6,5 @@ pub mod LaidLemmas
 pub mod TargetLemmas
 -- the paths of all coffers, by their numbers
 pub mod ReadLemmas
+-- tests of some numbers of a range
+pub mod RangeLemmas

@@ -46,10 +46,10 @@ path_end pages at id n len bytes is end long fits =
     let f = λ (i : ℕ). to_le_bytes w64 (at (coffer_path_word (coffer_entry pages id) i)) in
     ap (take len) (is ∙ ap (λ (k : ℕ). flat_map f (range_with_len 0 k)) end) ∙ ap (λ (k : ℕ). take k (path_bytes pages at id)) long
     ∙ sym (cond-true (nat_le (path_length pages at id) 440) (take (path_length pages at id) (path_bytes pages at id)) []
-        (le-leb (path_length pages at id) 440 (subst (λ (k : ℕ). k ≤ 440) long fits)))
+    (le-leb (path_length pages at id) 440 (subst (λ (k : ℕ). k ≤ 440) long fits)))
 
 -- an entry that says more than it has room for has no path
 pub no_path : (pages : ℕ) (at : ℕ → ℕ) (id len : ℕ) → len ≡ path_length pages at id → 440 < len → [] ≡ path_in pages at id
 no_path pages at id len long more =
     sym (cond-false (nat_le (path_length pages at id) 440) (take (path_length pages at id) (path_bytes pages at id)) []
-        (lt-leb (path_length pages at id) 440 (subst (λ (k : ℕ). 440 < k) long more)))
+    (lt-leb (path_length pages at id) 440 (subst (λ (k : ℕ). 440 < k) long more)))

@@ -1,10 +1,12 @@
 -- What is read once for all.
-use Rattle.std.specs.Prelude.{◌≡◌, ◌≢◌, ℕ, ◌<◌, ◌≤◌, List, map, Bool, true, false, Option, Some, None, if◌then◌else◌}
+use Rattle.std.specs.Prelude.{◌≡◌, ◌≢◌, ℕ, ◌<◌, ◌≤◌, List, map, Bool, true, false, Option, Some, None, if◌then◌else◌, not, ◌&&◌, ◌||◌, nat_le, ◌==◌, codes}
 use Rattle.zo_layout.specs.Layout.{signature_word, version_word, count_word}
 use Rattle.pm_words.specs.Word.{Word}
 use Rattle.tr_types.specs.Journal.{committed, kernel_word, laid_over, IsHome}
 use Rattle.tr_types.specs.KernelView.{pages_of}
-use Rattle.tr_types.specs.KernelTables.{stands_in, path_in, all_ids}
+use Rattle.tr_types.specs.KernelTables.{Coffer, stands_in, path_in, all_ids, is_mode, path_fails, pages_fail, path_stands_twice}
+use Rattle.tr_types.specs.Paths.{same_text}
+use Rattle.tr_types.specs.declared.permission.Perm.{Perm}
 
 -- these pairs say at each address what the committed ones say
 abbrev pub AreLaid : List Word → List (ℕ × ℕ) → Type 0
@@ -27,3 +29,19 @@ paths_there words = map (path_there (pages_of words) (kernel_word words)) all_id
 abbrev pub IsLeast : (ℕ → Bool) → ℕ → ℕ → Option ℕ → Type 0
 IsLeast test low high None = (k : ℕ) → low ≤ k → k < high → test k ≡ false
 IsLeast test low high (Some n) = (low ≤ n) × (n < high) × (test n ≡ true) × ((k : ℕ) → low ≤ k → k < n → test k ≡ false)
+
+-- a permission has a uid, a gid or a mode that is none
+abbrev pub perm_fails : Perm → Bool
+perm_fails perm = not (nat_le perm.uid 4294967295) || not (nat_le perm.gid 4294967295) || not (is_mode perm.mode)
+
+-- a coffer is there and has this path
+abbrev pub has_path : ℕ → (ℕ → ℕ) → List ℕ → ℕ → Bool
+has_path pages at path id = stands_in pages at id && same_text (path_in pages at id) path
+
+-- what a coffer's own words say
+abbrev pub fields_fail : ℕ → (ℕ → ℕ) → Coffer → Bool
+fields_fail pages at c = perm_fails c.perm || path_fails pages at c.id || not (c.kind == 0)
+
+-- what is to be its own: its two pages, and its path
+abbrev pub claims_fail : ℕ → (ℕ → ℕ) → Coffer → Bool
+claims_fail pages at c = pages_fail pages at c || path_stands_twice pages at c.id || ((c.id == 1) && not (same_text c.path (codes "/")))

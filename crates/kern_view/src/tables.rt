@@ -1,22 +1,19 @@
 // The rules of the owner table, the coffer table and the path buckets.
 ghost use Rattle.std.specs.Prelude.{◌≡◌, ℕ, ◌<◌, ◌≤◌, ◌&&◌, not, length, IfOk, option_map};
 ghost use Rattle.std.specs.List.{list_all, filter};
-ghost use Rattle.pm_words.specs.Memory.{HasPages};
+ghost use Rattle.pm_words.specs.Memory.{IsAddress, HasPages};
 ghost use Rattle.tr_types.specs.KernelView.{pages_of};
 ghost use Rattle.tr_types.specs.Journal.{kernel_word, IsReadable};
 ghost use Rattle.tr_types.specs.KernelTables as spec;
 ghost use Rattle.kern_view.specs.Reads.{path_there, paths_there, IsLeast};
 
 use crate::hashed::HashedPath;
-use crate::paths::is_path_text;
 use crate::view::View;
 use pm_words::{NoMemory, Words};
 use std::alloc::Global;
 use std::marker::Model;
 use zo_layout::{
-    coffer_control, coffer_entry, coffer_gid, coffer_kind, coffer_mode, coffer_next,
-    coffer_path_length, coffer_path_word, coffer_root, coffer_state, coffer_uid, kernel_pages,
-    owner_word, path_bucket,
+    coffer_entry, coffer_path_length, coffer_path_word, coffer_state, kernel_pages, owner_word,
 };
 
 /// What the owner table says of a page that is nobody's.
@@ -26,16 +23,7 @@ const NOBODY: u64 = 0;
 const KERNEL: u64 = 65535;
 
 /// Coffers have the numbers 1 to 256.
-const COFFERS: u16 = 256;
-
-/// The number of the root coffer.
-const ROOT: u16 = 1;
-
-/// The greatest uid and gid.
-const MOST_ID: u64 = 0xffff_ffff;
-
-/// The bits that a mode may have.
-const MODE_BITS: u64 = 0o666;
+pub const COFFERS: u16 = 256;
 
 /// Words of a path in the entry of its coffer.
 const PATH_WORDS: u32 = 55;
@@ -83,8 +71,16 @@ impl<'a> Tables<'a> {
         self.view.pages()
     }
 
-    // The path of a coffer that is there.
-    fn path(&self, id: u16) -> Option<&HashedPath>
+    /// What the kernel reads at a byte address.
+    pub fn word(&self, addr: u64) -> u64
+        requires { IsAddress (length self.now) addr }
+        ensures { result ≡ kernel_word self.now addr }
+    {
+        self.view.word(addr)
+    }
+
+    /// The path of a coffer that is there.
+    pub fn path(&self, id: u16) -> Option<&HashedPath>
         requires least { 1 ≤ id }
         requires most { id ≤ 256 }
         ensures { option_map (λ p. p.now) result ≡ path_there (pages_of self.now) (kernel_word self.now) id }
@@ -92,14 +88,15 @@ impl<'a> Tables<'a> {
         self.paths[usize::from(id) - 1].as_ref()
     }
 
-    // Whether a word is the number of a coffer that is there.
-    fn is_coffer(&self, word: u64) -> bool
+    /// Whether a word is the number of a coffer that is there.
+    pub fn is_coffer(&self, word: u64) -> bool
         ensures { result ≡ (spec.is_id word && spec.stands_in (pages_of self.now) (kernel_word self.now) word) }
     {
         word >= 1 && word <= u64::from(COFFERS) && self.path(word as u16).is_some()
     }
 
-    fn owner(&self, page: u32) -> u64
+    /// Whose a page is.
+    pub fn owner(&self, page: u32) -> u64
         requires { page < pages_of self.now }
         ensures { result ≡ spec.owner_in (pages_of self.now) (kernel_word self.now) page }
     {

@@ -6,7 +6,7 @@ use Rattle.kern_view.proofs.tables.Tables.path.Goals as goal
 pub index-requires : goal.index-requires
 index-requires c =
     let len : length c.self.inside.paths.items ≡ 256 =
-        ap (λ (paths : List (Option (List ℕ))). length paths) c.self.invariant ∙ length_paths c.self.inside.view in
+    ap (λ (paths : List (Option (List ℕ))). length paths) c.self.invariant ∙ length_paths c.self.inside.view in
     omega arith
 
 pub returns : goal.returns
