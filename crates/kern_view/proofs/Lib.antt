@@ -8,3 +8,5 @@ pub mod TargetLemmas
 pub mod ReadLemmas
 -- tests of some numbers of a range
 pub mod RangeLemmas
+-- a chain whose numbers are marked one by one
+pub mod ChainLemmas

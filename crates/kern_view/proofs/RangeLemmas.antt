@@ -56,3 +56,39 @@ stands_twice pages at id k low high other has =
     let parts = and_parts (stands_in pages at k) (same_text (path_in pages at k) (path_in pages at id)) has in
     some_passes (stands_in pages at) (λ other. not (other == id) && same_text (path_in pages at other) (path_in pages at id)) 1 256 k low high
     parts.0 (and_from (not (k == id)) (same_text (path_in pages at k) (path_in pages at id)) other parts.1)
+
+-- ---- all of those that pass a test
+
+-- not all do where one doesn't
+pub one_lacks : (h : ℕ → Bool) (ks : List ℕ) → not (list_all h ks) ≡ list_any (λ k. not (h k)) ks
+one_lacks h [] = refl
+one_lacks h (k ∷ ks) = by (h k) (one_lacks h ks)
+  where
+    by : (b : Bool) → not (list_all h ks) ≡ list_any (λ k. not (h k)) ks → not (b && list_all h ks) ≡ not b || list_any (λ k. not (h k)) ks
+    by true rest = rest
+    by false rest = refl
+
+pub lacks_none : (p h : ℕ → Bool) → ((k : ℕ) → 1 ≤ k → k < 257 → p k && not (h k) ≡ false) → not (list_all h (filter p all_ids)) ≡ false
+unfolding all_ids
+lacks_none p h none = one_lacks h (filter p (range_with_len 1 256)) ∙ none_passes p (λ k. not (h k)) 1 256 none
+
+pub lacks_some : (p h : ℕ → Bool) (k : ℕ) → 1 ≤ k → k < 257 → p k ≡ true → h k ≡ false → not (list_all h (filter p all_ids)) ≡ true
+unfolding all_ids
+lacks_some p h k low high pk hk =
+    one_lacks h (filter p (range_with_len 1 256)) ∙ some_passes p (λ k. not (h k)) 1 256 k low high pk (ap not hk)
+
+same_of_range : (p g h : ℕ → Bool) (a n : ℕ) → ((k : ℕ) → a ≤ k → k < a + n → g k ≡ h k)
+    → list_all g (filter p (range_with_len a n)) ≡ list_all h (filter p (range_with_len a n))
+same_of_range p g h a zero same = refl
+same_of_range p g h a (suc n) same = by (p a) (same_of_range p g h (a + 1) n (λ k low high. same k (omega arith) (omega arith)))
+  where
+    by : (b : Bool) → list_all g (filter p (range_with_len (a + 1) n)) ≡ list_all h (filter p (range_with_len (a + 1) n))
+        → list_all g (cond b (a ∷ filter p (range_with_len (a + 1) n)) (filter p (range_with_len (a + 1) n)))
+        ≡ list_all h (cond b (a ∷ filter p (range_with_len (a + 1) n)) (filter p (range_with_len (a + 1) n)))
+    by true rest = ap (λ (b : Bool). b && list_all g (filter p (range_with_len (a + 1) n))) (same a (omega arith) (omega arith)) ∙ ap (λ (b : Bool). h a && b) rest
+    by false rest = rest
+
+-- two tests that agree at each number agree of those that pass another
+pub same_of_all : (p g h : ℕ → Bool) → ((k : ℕ) → k ≤ 256 → g k ≡ h k) → list_all g (filter p all_ids) ≡ list_all h (filter p all_ids)
+unfolding all_ids
+same_of_all p g h same = same_of_range p g h 1 256 (λ k low high. same k (omega arith))

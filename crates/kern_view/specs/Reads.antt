@@ -1,6 +1,6 @@
 -- What is read once for all.
 use Rattle.std.specs.Prelude.{◌≡◌, ◌≢◌, ℕ, ◌<◌, ◌≤◌, List, map, Bool, true, false, Option, Some, None, if◌then◌else◌, not, ◌&&◌, ◌||◌, nat_le, ◌==◌, codes}
-use Rattle.zo_layout.specs.Layout.{signature_word, version_word, count_word}
+use Rattle.zo_layout.specs.Layout.{signature_word, version_word, count_word, bucket_of}
 use Rattle.pm_words.specs.Word.{Word}
 use Rattle.tr_types.specs.Journal.{committed, kernel_word, laid_over, IsHome}
 use Rattle.tr_types.specs.KernelView.{pages_of}
@@ -45,3 +45,7 @@ fields_fail pages at c = perm_fails c.perm || path_fails pages at c.id || not (c
 -- what is to be its own: its two pages, and its path
 abbrev pub claims_fail : ℕ → (ℕ → ℕ) → Coffer → Bool
 claims_fail pages at c = pages_fail pages at c || path_stands_twice pages at c.id || ((c.id == 1) && not (same_text c.path (codes "/")))
+
+-- a coffer is there, and its path belongs to the bucket
+abbrev pub is_in_bucket : ℕ → (ℕ → ℕ) → ℕ → ℕ → Bool
+is_in_bucket pages at bucket id = stands_in pages at id && (bucket_of (path_in pages at id) == bucket)

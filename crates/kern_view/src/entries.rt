@@ -141,8 +141,8 @@ impl<'a> Tables<'a> {
         }
     }
 
-    // The address of a coffer's entry.
-    fn entry(&self, id: u16) -> u64
+    /// The address of a coffer's entry.
+    pub fn entry(&self, id: u16) -> u64
         requires least { 1 ≤ id }
         requires most { id ≤ 256 }
         ensures at { result ≡ coffer_entry_at (pages_of self.now) id }

@@ -1,6 +1,7 @@
 //! What the kernel's pages say, and whether they say it rightly.
 #![tactic(auto)]
 
+mod buckets;
 mod entries;
 mod hashed;
 mod overlay;

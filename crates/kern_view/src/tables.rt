@@ -1,5 +1,5 @@
 // The rules of the owner table, the coffer table and the path buckets.
-ghost use Rattle.std.specs.Prelude.{◌≡◌, ℕ, ◌<◌, ◌≤◌, ◌&&◌, not, length, IfOk, option_map};
+ghost use Rattle.std.specs.Prelude.{◌≡◌, ℕ, ◌<◌, ◌≤◌, ◌&&◌, not, length, true, IfOk, option_map};
 ghost use Rattle.std.specs.List.{list_all, filter};
 ghost use Rattle.pm_words.specs.Memory.{IsAddress, HasPages};
 ghost use Rattle.tr_types.specs.KernelView.{pages_of};
@@ -90,7 +90,9 @@ impl<'a> Tables<'a> {
 
     /// Whether a word is the number of a coffer that is there.
     pub fn is_coffer(&self, word: u64) -> bool
-        ensures { result ≡ (spec.is_id word && spec.stands_in (pages_of self.now) (kernel_word self.now) word) }
+        ensures value { result ≡ (spec.is_id word && spec.stands_in (pages_of self.now) (kernel_word self.now) word) }
+        ensures least { result ≡ true → 1 ≤ word }
+        ensures most { result ≡ true → word ≤ 256 }
     {
         word >= 1 && word <= u64::from(COFFERS) && self.path(word as u16).is_some()
     }
