@@ -10,3 +10,5 @@ pub mod ReadLemmas
 pub mod RangeLemmas
 -- a chain whose numbers are marked one by one
 pub mod ChainLemmas
+-- the first fault of the kernel's pages
+pub mod FaultLemmas

@@ -2,9 +2,11 @@
 use Rattle.std.specs.Prelude.{◌≡◌, ◌≢◌, ℕ, ◌<◌, ◌≤◌, List, map, Bool, true, false, Option, Some, None, if◌then◌else◌, not, ◌&&◌, ◌||◌, nat_le, ◌==◌, codes}
 use Rattle.zo_layout.specs.Layout.{signature_word, version_word, count_word, bucket_of}
 use Rattle.pm_words.specs.Word.{Word}
+use Rattle.pm_words.specs.Memory.{word_at}
+use Rattle.tr_types.specs.KernelRules.{treasury}
 use Rattle.tr_types.specs.Journal.{committed, kernel_word, laid_over, IsHome}
 use Rattle.tr_types.specs.KernelView.{pages_of}
-use Rattle.tr_types.specs.KernelTables.{Coffer, stands_in, path_in, all_ids, is_mode, path_fails, pages_fail, path_stands_twice}
+use Rattle.tr_types.specs.KernelTables.{Coffer, stands_in, path_in, all_ids, is_mode, owner_fails, entry_fails, bucket_fails, path_fails, pages_fail, path_stands_twice}
 use Rattle.tr_types.specs.Paths.{same_text}
 use Rattle.tr_types.specs.declared.permission.Perm.{Perm}
 
@@ -49,3 +51,15 @@ claims_fail pages at c = pages_fail pages at c || path_stands_twice pages at c.i
 -- a coffer is there, and its path belongs to the bucket
 abbrev pub is_in_bucket : ℕ → (ℕ → ℕ) → ℕ → ℕ → Bool
 is_in_bucket pages at bucket id = stands_in pages at id && (bucket_of (path_in pages at id) == bucket)
+
+-- the superblock is that of an image of this size
+pub record HasSuperblock (words : List Word) : Type 0 where
+  pub signature : (word_at words signature_word).present ≡ treasury
+  pub version : (word_at words version_word).present ≡ 1
+  pub count : (word_at words count_word).present ≡ pages_of words
+
+-- no rule of the tables fails
+pub record AreGoodTables (words : List Word) : Type 0 where
+  pub owners : (page : ℕ) → page < pages_of words → owner_fails (pages_of words) (kernel_word words) page ≡ false
+  pub entries : (id : ℕ) → 1 ≤ id → id ≤ 256 → entry_fails (pages_of words) (kernel_word words) id ≡ false
+  pub buckets : (bucket : ℕ) → bucket < 256 → bucket_fails (pages_of words) (kernel_word words) bucket ≡ false

@@ -3,6 +3,7 @@
 
 mod buckets;
 mod entries;
+mod fault;
 mod hashed;
 mod overlay;
 mod paths;
@@ -10,4 +11,5 @@ mod superblock;
 mod tables;
 mod view;
 
+pub use fault::first_fault;
 pub use paths::is_path_text;

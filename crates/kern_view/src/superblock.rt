@@ -5,7 +5,7 @@ ghost use Rattle.pm_words.specs.Memory.{word_at, HasPages};
 ghost use Rattle.tr_types.specs.KernelView.{pages_of};
 ghost use Rattle.tr_types.specs.Journal as journal;
 ghost use Rattle.tr_types.specs.KernelRules as rules;
-ghost use Rattle.kern_view.specs.Reads.{IsTarget};
+ghost use Rattle.kern_view.specs.Reads.{HasSuperblock, IsTarget};
 
 use pm_words::Words;
 use zo_layout::{
@@ -21,7 +21,7 @@ const VERSION: u64 = 1;
 
 /// The first address of the superblock at which a word isn't as an image of this size has it.
 pub fn superblock_fault(words: &Words) -> Option<u64>
-    ensures { MatchOption result (rules.Passes words.now rules.Superblock) (rules.FailsFirst words.now rules.Superblock) }
+    ensures { MatchOption result (HasSuperblock words.now) (rules.FailsFirst words.now rules.Superblock) }
 {
     let pages = u64::from(words.pages());
     if words.load(signature_word()) != TREASURY {
