@@ -13,3 +13,6 @@ mod view;
 
 pub use fault::first_fault;
 pub use paths::is_path_text;
+
+#[cfg(test)]
+mod tests;

@@ -1,16 +1,14 @@
 // Whether the superblock and the journal can be used.
 ghost use Rattle.std.specs.Prelude.{◌≡◌, ◌↔◌, ◌<◌, ◌≤◌, ◌/◌, length, true, MatchOption, IsTrue};
-ghost use Rattle.zo_layout.specs.Layout as layout;
 ghost use Rattle.pm_words.specs.Memory.{word_at, HasPages};
 ghost use Rattle.tr_types.specs.KernelView.{pages_of};
-ghost use Rattle.tr_types.specs.Journal as journal;
 ghost use Rattle.tr_types.specs.KernelRules as rules;
 ghost use Rattle.kern_view.specs.Reads.{HasSuperblock, IsTarget};
 
+use kern_journal::{capacity, committed_count};
 use pm_words::Words;
 use zo_layout::{
-    WORD_BYTES, committed_word, count_word, owner_table, page_at, pair_address, pair_capacity,
-    signature_word, version_word,
+    WORD_BYTES, count_word, owner_table, page_at, pair_address, signature_word, version_word,
 };
 
 /// The bytes `TREASURY`, the first one lowest.
@@ -40,9 +38,8 @@ pub fn superblock_fault(words: &Words) -> Option<u64>
 pub fn is_finishable(words: &Words) -> bool
     ensures { IsTrue result ↔ rules.IsFinishable words.now }
 {
-    let pages = words.pages();
-    let count = words.load(committed_word());
-    if count > u64::from(pair_capacity(pages)) {
+    let count = committed_count(words);
+    if count > u64::from(capacity(words)) {
         return false;
     }
     for i in 0..count as u32 {

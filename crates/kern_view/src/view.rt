@@ -2,9 +2,10 @@
 ghost use Rattle.std.specs.Prelude.{◌≡◌, length, IfOk};
 ghost use Rattle.pm_words.specs.Memory.{IsAddress, HasPages};
 ghost use Rattle.tr_types.specs.KernelView.{pages_of};
-ghost use Rattle.tr_types.specs.Journal.{committed, kernel_word, IsReadable};
+ghost use Rattle.tr_types.specs.Journal.{kernel_word, IsReadable};
 
 use crate::overlay::Overlay;
+use kern_journal::committed;
 use pm_words::{NoMemory, Words};
 use std::alloc::Global;
 use std::marker::Model;
@@ -55,20 +56,4 @@ impl<'a> View<'a> {
     {
         self.committed.get(addr, self.words.load(addr))
     }
-}
-
-// The committed pairs in their order.
-fn committed(alloc: Global, words: &Words) -> Result<Vec<(u64, u64)>, NoMemory>
-    requires { IsReadable words.now }
-    ensures { IfOk result (λ pairs. pairs.items ≡ committed words.now) }
-{
-    let _pages = words.pages();
-    let mut pairs = Vec::new(alloc);
-    for i in 0..words.load(zo_layout::committed_word()) as u32 {
-        pairs.push((
-            words.load(zo_layout::pair_address(i)),
-            words.load(zo_layout::pair_value(i)),
-        ))?;
-    }
-    Ok(pairs)
 }
