@@ -6,7 +6,7 @@ use Rattle.pm_words.specs.Memory.{word_at}
 use Rattle.tr_types.specs.KernelView.{pages_of}
 use Rattle.tr_types.specs.Journal.{kernel_word}
 use Rattle.tr_types.specs.KernelTables.{owner_fails, entry_fails, bucket_fails}
-use Rattle.tr_types.specs.KernelRules.{FailsFirst, FailsIn, IsFinishable, IsFirstFault, IsSoundKernel, Passes}
+use Rattle.tr_types.specs.KernelRules.{Stage, FailsFirst, FailsIn, IsFinishable, IsFirstFault, IsSoundKernel, Passes}
 use Rattle.tr_types.specs.KernelRules as rules
 use Rattle.kern_view.specs.Reads.{AreGoodTables, HasSuperblock, IsLeast}
 
@@ -106,3 +106,33 @@ pub judged : (words : List Word) → HasSuperblock words → IsFinishable words 
     → MatchOption fault (AreGoodTables words) (FailsFirst words rules.Tables) → MatchOption fault (IsSoundKernel words) (IsFirstFault words)
 judged words has finishable None good = sound words has finishable good
 judged words has finishable (Some place) first = tables_first words place has finishable first
+
+-- ---- there is one first fault
+
+one_of_stage : (words : List Word) (stage : Stage) (place other : ℕ) → FailsFirst words stage place → FailsFirst words stage other → place ≡ other
+one_of_stage words stage place other first second =
+    let le = first.least other second.fails in
+    let ge = second.least place first.fails in
+    omega arith
+
+pub one_fault : (words : List Word) (place other : ℕ) → IsFirstFault words place → IsFirstFault words other → place ≡ other
+one_fault words place other (inl first) (inl second) = one_of_stage words rules.Superblock place other first second
+one_fault words place other (inl first) (inr (inl (passed, second))) = absurd (passed place first.fails)
+one_fault words place other (inl first) (inr (inr (passed, pairs, second))) = absurd (passed place first.fails)
+one_fault words place other (inr (inl (passed, first))) (inl second) = absurd (passed other second.fails)
+one_fault words place other (inr (inl (passed, first))) (inr (inl (_, second))) = one_of_stage words rules.Pairs place other first second
+one_fault words place other (inr (inl (passed, first))) (inr (inr (_, pairs, second))) = absurd (pairs place first.fails)
+one_fault words place other (inr (inr (passed, pairs, first))) (inl second) = absurd (passed other second.fails)
+one_fault words place other (inr (inr (passed, pairs, first))) (inr (inl (_, second))) = absurd (pairs other second.fails)
+one_fault words place other (inr (inr (passed, pairs, first))) (inr (inr (_, _, second))) = one_of_stage words rules.Tables place other first second
+
+tables_pass : (words : List Word) → IsSoundKernel words → Passes words rules.Tables
+tables_pass words is place (inl (page, inside, _, wrong)) = both_ways (owner_fails (pages_of words) (kernel_word words) page) (is.owners page inside) wrong
+tables_pass words is place (inr (inl (id, from, to, _, wrong))) = both_ways (entry_fails (pages_of words) (kernel_word words) id) (is.entries id from to) wrong
+tables_pass words is place (inr (inr (bucket, inside, _, wrong))) = both_ways (bucket_fails (pages_of words) (kernel_word words) bucket) (is.buckets bucket inside) wrong
+
+pub none_in_sound : (words : List Word) (place : ℕ) → IsSoundKernel words → IsFirstFault words place → ⊥
+none_in_sound words place is (inl first) =
+    superblock_passes words (record { signature = is.signature; version = is.version; count = is.count }) place first.fails
+none_in_sound words place is (inr (inl (_, first))) = first.fails.1 is.pairs
+none_in_sound words place is (inr (inr (_, _, first))) = tables_pass words is place first.fails

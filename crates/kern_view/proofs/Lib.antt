@@ -12,3 +12,7 @@ pub mod RangeLemmas
 pub mod ChainLemmas
 -- the first fault of the kernel's pages
 pub mod FaultLemmas
+-- tables that read the same break the same rules
+pub mod SameTables
+-- words that are finished are as sound as they were
+pub mod SoundLemmas

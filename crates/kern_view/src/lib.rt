@@ -5,6 +5,7 @@ mod buckets;
 mod entries;
 mod fault;
 mod hashed;
+mod laws;
 mod overlay;
 mod paths;
 mod superblock;
@@ -12,6 +13,7 @@ mod tables;
 mod view;
 
 pub use fault::first_fault;
+pub use laws::fault_law;
 pub use paths::is_path_text;
 
 #[cfg(test)]
