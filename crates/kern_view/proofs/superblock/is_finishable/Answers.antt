@@ -22,7 +22,7 @@ pub returns : goal.returns
 returns c =
     let words = c.args.words.now in
     let count = c.committed_count-count.ensures.count in
-    let room : committed_count words ≤ pair_capacity (pages_of words) = omega (arith, count, c.from.ensures ∙ c.capacity.ensures) in
+    let room : committed_count words ≤ pair_capacity (pages_of words) = omega (arith, count, c.from.ensures ∙ c.capacity.ensures.capacity) in
     let each : (k : ℕ) → k < committed_count words → IsTarget words (word_at words (pair_address k)).present =
     λ k lt. c.loop-i.invariant k (omega (arith, count)) in
     (λ _. finishable_from words room each, λ _. refl)

