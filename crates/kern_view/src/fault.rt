@@ -1,5 +1,6 @@
 // The first rule that fails.
-ghost use Rattle.std.specs.Prelude.{◌≡◌, MatchOption, IfOk};
+ghost use Rattle.std.specs.Prelude.{◌≡◌, length, MatchOption, IfOk};
+ghost use Rattle.pm_words.specs.Memory.{HasPages};
 ghost use Rattle.tr_types.specs.KernelRules.{FailsFirst, IsFirstFault, IsSoundKernel};
 ghost use Rattle.tr_types.specs.KernelRules as rules;
 ghost use Rattle.kern_view.specs.Reads.{AreGoodTables};
@@ -18,7 +19,8 @@ use zo_layout::{coffer_entry, committed_word, owner_word, path_bucket};
 /// costs in proportion to the image's pages and the committed pairs. With 256 coffers the hashes of
 /// 65,280 pairs of paths are compared.
 pub fn first_fault(alloc: Global, words: &Words) -> Result<Option<u64>, NoMemory>
-    ensures { IfOk result (λ fault. MatchOption fault (IsSoundKernel words.now) (IsFirstFault words.now)) }
+    ensures fault { IfOk result (λ fault. MatchOption fault (IsSoundKernel words.now) (IsFirstFault words.now)) }
+    ensures size { HasPages (length words.now) }
 {
     if let Some(place) = superblock_fault(words) {
         return Ok(Some(place));

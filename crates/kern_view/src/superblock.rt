@@ -19,7 +19,8 @@ const VERSION: u64 = 1;
 
 /// The first address of the superblock at which a word isn't as an image of this size has it.
 pub fn superblock_fault(words: &Words) -> Option<u64>
-    ensures { MatchOption result (HasSuperblock words.now) (rules.FailsFirst words.now rules.Superblock) }
+    ensures fault { MatchOption result (HasSuperblock words.now) (rules.FailsFirst words.now rules.Superblock) }
+    ensures size { HasPages (length words.now) }
 {
     let pages = u64::from(words.pages());
     if words.load(signature_word()) != TREASURY {
