@@ -127,8 +127,8 @@ pub fn redo(alloc: Global, words: &mut Words) -> Result<(), NoMemory>
     make_all(words, &events)
 }
 
-// The committed pairs in their order.
-fn committed(alloc: Global, words: &Words) -> Result<Vec<(u64, u64)>, NoMemory>
+/// The committed pairs in their order, each an address and a value.
+pub fn committed(alloc: Global, words: &Words) -> Result<Vec<(u64, u64)>, NoMemory>
     requires { spec.IsReadable words.now }
     ensures pairs { IfOk result (λ pairs. pairs.items ≡ spec.committed words.now) }
     ensures size { HasPages (length words.now) }

@@ -15,7 +15,9 @@ mod lines;
 
 pub use image::new_image;
 pub use inner::Inner;
-pub use journal::{JournalFault, apply, apply_first, capacity, committed_count, kernel_word, redo};
+pub use journal::{
+    JournalFault, apply, apply_first, capacity, committed, committed_count, kernel_word, redo,
+};
 pub use laws::{apply_law, crash_law, cut_law, view_law};
 
 #[cfg(test)]

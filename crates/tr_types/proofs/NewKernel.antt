@@ -307,7 +307,7 @@ new_is_sound pages least most =
       pairs = record {
         readable = record {
           room = subst (λ (n : ℕ). n ≤ pair_capacity (pages_of (all_durable (new_image pages)))) (sym (new_committed pages least most)) (omega arith);
-          homes = subst (λ (pairs : List (ℕ × ℕ)). All (λ p. IsHome (all_durable (new_image pages)) p.0) pairs) (sym (none_committed pages least most)) (All-nil (λ p. IsHome (all_durable (new_image pages)) p.0));
+          homes = subst (λ (pairs : List (ℕ × ℕ)). All (λ p. IsHome (length (all_durable (new_image pages))) p.0) pairs) (sym (none_committed pages least most)) (All-nil (λ p. IsHome (length (all_durable (new_image pages))) p.0));
         };
         spares = subst (λ (pairs : List (ℕ × ℕ)). All (λ p. (p.0 ≢ signature_word) × (p.0 ≢ version_word) × (p.0 ≢ count_word)) pairs) (sym (none_committed pages least most))
             (All-nil (λ p. (p.0 ≢ signature_word) × (p.0 ≢ version_word) × (p.0 ≢ count_word)));
