@@ -145,7 +145,7 @@ lower low less [] le up = tt
 lower low less (x ∷ xs) le up = (let first = up.0 in omega arith, up.1)
 
 -- each is at least the least
-least_of : (low : ℕ) (xs : List ℕ) → Ascends low xs → AllByRecursion (λ x. low ≤ x) xs
+pub least_of : (low : ℕ) (xs : List ℕ) → Ascends low xs → AllByRecursion (λ x. low ≤ x) xs
 least_of low [] up = tt
 least_of low (x ∷ xs) up = (up.0, least_of low xs (lower (x + 1) low xs (let first = up.0 in omega arith) up.1))
 
