@@ -18,7 +18,7 @@ finished_by old new law size sound is =
 
 pub nothing_committed : (old new : List Word) → ViewLaw → HasPages (length old) → IsSoundKernel old → new ≡ made_all (redo_events old) old
     → committed_count new ≡ 0
-nothing_committed old new law size sound is = let finished = finished_by old new law size sound is in finished.idle.present
+nothing_committed old new law size sound is = let finished = finished_by old new law size sound is in finished.idle
 
 pub still_sound : (old new : List Word) → ViewLaw → HasPages (length old) → IsSoundKernel old → new ≡ made_all (redo_events old) old → IsSoundKernel new
 still_sound old new law size sound is =
@@ -27,7 +27,7 @@ still_sound old new law size sound is =
     (record {
       size = size;
       len = finished.len;
-      idle = finished.idle.present;
+      idle = finished.idle;
       view = λ addr home. finished.view addr (record { inside = home.inside; outside = home.outside });
     })
     sound
