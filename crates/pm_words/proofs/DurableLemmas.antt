@@ -1,10 +1,10 @@
 -- Lines of which no word has an entry.
-use Rattle.std.proofs.Common.{◌≡◌, ℕ, ◌+◌, ◌*◌, ◌/◌, ◌<◌, ◌≤◌, Option, Some, None, unwrap_or, List, [], length, slice_index_or, nat_eq, refl, sym, ap, subst, ◌∙◌, arith}
+use Rattle.std.proofs.Common.{◌≡◌, ℕ, ◌+◌, ◌*◌, ◌/◌, ◌<◌, ◌≤◌, Option, Some, None, unwrap_or, List, [], length, slice_index_or, nat_eq, refl, sym, ap, ◌∙◌, arith}
 use Rattle.std.specs.Option.{IfSome}
 use Rattle.std.specs.Map.{lookup}
 use Rattle.pm_words.specs.Word.{Word, settled}
 use Rattle.pm_words.specs.Memory.{flush_at, IsLineDurable}
-use Rattle.pm_words.specs.View.{Held, no_held, look, look_at, older_at, words_of, IsSameAt, IsFlushedAt, IsPendingAt, ArePending}
+use Rattle.pm_words.specs.View.{Held, no_held, look, look_at, older_at, words_of, IsFlushedAt, IsPendingAt, ArePending}
 use Rattle.pm_words.proofs.PlaceLemmas.{same_at}
 use Rattle.pm_words.proofs.ViewLemmas.{flush_is, length_words_of, words_of_at}
 

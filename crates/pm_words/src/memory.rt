@@ -1,6 +1,6 @@
 //! The words of a running machine.
 
-ghost use Rattle.std.specs.Prelude.{◌≡◌, ◌*◌, ◌/◌, ◌<◌, ◌≤◌, ◌^◌, length, replicate, ℕ, false, IsOk, IfOk, OnOk, OnErr};
+ghost use Rattle.std.specs.Prelude.{◌≡◌, ◌≢◌, ◌*◌, ◌/◌, ◌<◌, ◌≤◌, ◌^◌, length, replicate, ℕ, false, IsOk, IfOk, OnOk, OnErr};
 ghost use Rattle.pm_words.specs.Word.{crash_list};
 ghost use Rattle.pm_words.specs.Memory.{word_at, store_at, cas_at, flush_at, fence_by, present_values, all_durable, IsAddress, IsLineDurable, HasPages};
 ghost use Rattle.pm_words.specs.Crash.{after_crash};
@@ -106,13 +106,14 @@ impl Words {
     }
 
     /// Stores `new` exactly where the word at a byte address has the value `old`. Answers the value
-    /// that was there. An error leaves the memory as it was.
+    /// that was there. An error leaves the memory as it was, and doesn't come where the value is another.
     pub fn cas(&mut self, addr: u64, old: u64, new: u64) -> Result<u64, NoMemory>
         requires { IsAddress (length self.old) addr }
         ensures value { IfOk result (λ value. value ≡ (word_at self.old addr).present) }
         ensures ok { OnOk result (self.new ≡ cas_at addr old new self.old) }
         ensures err { OnErr result (self.new ≡ self.old) }
         ensures len { length self.new ≡ length self.old }
+        ensures other { (word_at self.old addr).present ≢ old → IsOk result × (self.new ≡ self.old) }
     {
         let value = self.load(addr);
         if value == old {

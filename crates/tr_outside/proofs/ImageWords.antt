@@ -1,5 +1,5 @@
 -- The words of an image from its bytes.
-use Rattle.std.proofs.Common.{◌≡◌, ◌≢◌, ℕ, ◌*◌, ◌/◌, ◌<◌, List, length, drop, Result, Ok, Err, IfOk, inl, inr, ap, ◌∙◌, map, arith}
+use Rattle.std.proofs.Common.{◌≡◌, ◌≢◌, ℕ, ◌*◌, ◌/◌, List, length, drop, Result, Ok, Err, IfOk, inl, inr, ap, ◌∙◌, arith}
 use Rattle.std.proofs.lemmas.List.FromFn.{fill_by_all, length-range_with_len}
 use Rattle.std.proofs.lemmas.List.{length-map}
 use Rattle.std.specs.List.{range_with_len}
@@ -28,7 +28,7 @@ no_read_fault bytes (Err fault.ReadFault) (inr none) e = absurd none
 pub sized : (bytes : List ℕ) (result : Result (List ℕ) ImageFault) → AnswersBytes bytes result → IfOk result (λ words. HasPages (length words))
 sized bytes (Ok words) (is, same) =
     let len : length words ≡ length bytes / 8 =
-        ap (λ (l : List ℕ). length l) same ∙ length-map (range_with_len 0 (length bytes / 8)) (λ i. little_number 8 (drop (8 * i) bytes)) ∙ length-range_with_len 0 (length bytes / 8) in
+    ap (λ (l : List ℕ). length l) same ∙ length-map (range_with_len 0 (length bytes / 8)) (λ i. little_number 8 (drop (8 * i) bytes)) ∙ length-range_with_len 0 (length bytes / 8) in
     let least = is.least in
     let most = is.most in
     let whole = is.whole in

@@ -40,9 +40,7 @@ fn main(rt: HostRuntime) -> io::Result<ExitCode> {
     };
     let mut memory = Words::blank(rt.alloc(), PAGES)?;
     make_pending(&mut memory, pending)?;
-    for time in 0..times {
-        step(&mut memory, work, time)?;
-    }
+    repeat(&mut memory, work, times)?;
     println!(rt; "{}", memory.load(0))?;
     Ok(ExitCode::from(0))
 }
@@ -74,6 +72,17 @@ fn make_pending(memory: &mut Words, count: u32) -> Result<(), NoMemory>
 {
     for place in 0..LINE_WORDS + count {
         memory.store(8 * u64::from(place), 1)?;
+    }
+    Ok(())
+}
+
+// Does the work so often.
+fn repeat(memory: &mut Words, work: Work, times: u32) -> Result<(), NoMemory>
+    requires words { length memory.old ≡ 524288 }
+    ensures len { length memory.new ≡ 524288 }
+{
+    for time in 0..times {
+        step(memory, work, time)?;
     }
     Ok(())
 }

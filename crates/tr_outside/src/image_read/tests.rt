@@ -85,7 +85,10 @@ fn the_number_of_bytes_decides(rt: HostRuntime) -> Result<(), AllocError> {
     ];
     for (len, fault) in refused {
         let outcome = outcome_of(rt.alloc(), len, usize::MAX, &[])?;
-        assert!(rt; matches!(outcome, Err(found) if found == fault), "{len} bytes");
+        assert!(rt;
+            matches!(outcome, Err(found) if found == fault),
+            "{len} bytes"
+        );
     }
     Ok(())
 }
@@ -107,7 +110,10 @@ fn a_call_that_fails_comes_first(rt: HostRuntime) -> Result<(), AllocError> {
     let cases = [(0, 1), (262_143, 4), (262_144, 5), (262_145, 5)];
     for (len, fails) in cases {
         let outcome = outcome_of(rt.alloc(), len, usize::MAX, &[fails])?;
-        assert!(rt; matches!(outcome, Err(ImageFault::ReadFault)), "{len} bytes");
+        assert!(rt;
+            matches!(outcome, Err(ImageFault::ReadFault)),
+            "{len} bytes"
+        );
     }
     Ok(())
 }

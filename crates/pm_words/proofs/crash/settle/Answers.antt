@@ -1,4 +1,4 @@
-use Rattle.std.proofs.Common.{◌∙◌, length, ℕ, subst, sym}
+use Rattle.std.proofs.Common.{◌∙◌, ℕ, subst, sym}
 use Rattle.pm_words.specs.View.{ArePending}
 use Rattle.pm_words.proofs.SettleLemmas.{popped_inside, popped_pending, popped_left}
 use Rattle.pm_words.proofs.crash.settle.Goals as goal

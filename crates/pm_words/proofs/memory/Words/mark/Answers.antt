@@ -1,4 +1,4 @@
-use Rattle.std.proofs.Common.{◌*◌, ◌/◌, ◌∙◌, arith}
+use Rattle.std.proofs.Common.{◌∙◌, arith}
 use Rattle.pm_words.proofs.PlaceLemmas.{on_err, same_then, same_flushed}
 use Rattle.pm_words.proofs.LineLemmas.{same_sound, flushed_sound}
 use Rattle.pm_words.proofs.ViewLemmas.{same_words, flush_is}
