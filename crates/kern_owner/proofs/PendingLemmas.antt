@@ -92,8 +92,8 @@ pending_is_sound pages page owner words size sound none lt behind free coffer st
   pairs = record {
     readable = record {
       room = subst (λ (n : ℕ). n ≤ pair_capacity (pages_of (with_pair (owner_word pages page) owner words))) (sym (count_with (owner_word pages page) owner words least)) (omega (arith, count_now));
-      homes = subst (λ (pairs : List (ℕ × ℕ)). All (λ p. IsHome (with_pair (owner_word pages page) owner words) p.0) pairs) (sym (committed_with (owner_word pages page) owner words least))
-          (All-cons (λ (p : ℕ × ℕ). IsHome (with_pair (owner_word pages page) owner words) p.0) (owner_word pages page, owner) [] home (All-nil (λ (p : ℕ × ℕ). IsHome (with_pair (owner_word pages page) owner words) p.0)));
+      homes = subst (λ (pairs : List (ℕ × ℕ)). All (λ p. IsHome (length (with_pair (owner_word pages page) owner words)) p.0) pairs) (sym (committed_with (owner_word pages page) owner words least))
+          (All-cons (λ (p : ℕ × ℕ). IsHome (length (with_pair (owner_word pages page) owner words)) p.0) (owner_word pages page, owner) [] home (All-nil (λ (p : ℕ × ℕ). IsHome (length (with_pair (owner_word pages page) owner words)) p.0)));
     };
     spares = subst (λ (pairs : List (ℕ × ℕ)). All (λ p. (p.0 ≢ signature_word) × (p.0 ≢ version_word) × (p.0 ≢ count_word)) pairs) (sym (committed_with (owner_word pages page) owner words least))
         (All-cons (λ (p : ℕ × ℕ). (p.0 ≢ signature_word) × (p.0 ≢ version_word) × (p.0 ≢ count_word)) (owner_word pages page, owner) []
@@ -116,7 +116,7 @@ pending_is_sound pages page owner words size sound none lt behind free coffer st
     present : (addr : ℕ) → addr % 8 ≡ 0 → addr < page_at 1 → (word_at (with_pair (owner_word pages page) owner words) addr).present ≡ (word_at words addr).present
     present addr whole before = ap (λ (w : Word). w.present) (kept_with (owner_word pages page) owner addr words whole (inl before))
 
-    home : IsHome (with_pair (owner_word pages page) owner words) (owner_word pages page)
+    home : IsHome (length (with_pair (owner_word pages page) owner words)) (owner_word pages page)
     home =
         let same = size_with (owner_word pages page) owner words in
         let whole = size.whole in

@@ -33,7 +33,7 @@ pub record IsRead (old new : List Word) : Type 0 where
   pub size : HasPages (length old)
   pub len : length new ≡ length old
   pub idle : committed_count new ≡ 0
-  pub view : (addr : ℕ) → IsHome old addr → kernel_word new addr ≡ kernel_word old addr
+  pub view : (addr : ℕ) → IsHome (length old) addr → kernel_word new addr ≡ kernel_word old addr
 
 same_pages : (old new : List Word) → IsRead old new → pages_of new ≡ pages_of old
 same_pages old new is = ap (λ (n : ℕ). n / 512) is.len
@@ -48,7 +48,7 @@ read_same old new is readable = record { same = λ addr aligned behind. by addr 
     by addr aligned behind (inr past) =
         let len = is.len in
         let far : length new ≤ addr / 8 = omega arith in
-        let others = All-weaker (λ (p : ℕ × ℕ). IsHome old p.0) (λ (p : ℕ × ℕ). p.0 ≢ addr)
+        let others = All-weaker (λ (p : ℕ × ℕ). IsHome (length old) p.0) (λ (p : ℕ × ℕ). p.0 ≢ addr)
         (λ p home e. let inside : p.0 / 8 < length old = home.inside.inside in omega (arith, ap (λ (n : ℕ). n / 8) e)) (committed old) readable.homes in
         idle_word new addr is.idle ∙ past_end new addr far
         ∙ sym (unnamed (committed old) addr (word_at old addr).present others ∙ past_end old addr past)
