@@ -1,26 +1,22 @@
 -- What crashes leave between the events of the journal.
-use Rattle.std.proofs.Common.{◌≡◌, ◌≢◌, ℕ, ◌+◌, ◌-◌, ◌*◌, ◌/◌, ◌%◌, ◌<◌, ◌≤◌, zero, suc, List, [], ◌∷◌, ◌++◌, take, length, get_or, map, refl, sym, ap, subst, ◌∙◌, inl, inr, ◌⊎◌, arith, All, Contains}
-use Rattle.std.specs.Prelude.{fold}
+use Rattle.std.proofs.Common.{◌≡◌, ℕ, ◌+◌, ◌-◌, ◌/◌, ◌<◌, ◌≤◌, List, [], ◌∷◌, take, length, get_or, map, refl, sym, ap, subst, ◌∙◌, inl, inr, ◌⊎◌, arith, All, Contains}
 use Rattle.std.specs.List.{range_with_len}
 use Rattle.std.proofs.lemmas.Bool.{cases_lt}
 use Rattle.std.proofs.lemmas.List.{take-append-le}
-use Rattle.std.proofs.lemmas.List.Elements.{All-nil, All-head, All-tail, All-append, All-take, All-same, Contains-push}
-use Rattle.std.proofs.lemmas.List.FromFn.{length-map-range_with_len}
+use Rattle.std.proofs.lemmas.List.Elements.{All-head, All-tail, All-take}
 use Rattle.std.proofs.lemmas.List.Sums.{fold-append}
-use Rattle.zo_layout.specs.Layout.{pair_address, pair_value, pair_capacity, committed_word}
-use Rattle.pm_words.specs.Word.{Word, settled, crash_list}
-use Rattle.pm_words.specs.Memory.{word_at, IsAddress, HasPages}
+use Rattle.zo_layout.specs.Layout.{pair_address, pair_value, committed_word}
+use Rattle.pm_words.specs.Word.{Word, crash_list}
+use Rattle.pm_words.specs.Memory.{word_at, IsAddress}
 use Rattle.pm_words.specs.Crash.{MayLeave}
-use Rattle.tr_types.specs.KernelView.{pages_of}
 use Rattle.kern_journal.specs.declared.inner.Inner.{Inner}
-use Rattle.kern_journal.specs.declared.inner.Inner.TheVariants.{Fence}
 use Rattle.kern_journal.specs.Inner.{made, made_all, phase}
-use Rattle.kern_journal.specs.Journal.{IsHome, IsReadable, committed, committed_count, pair_at, laid_over, journal_words, count_pair, finish_events, journal_events, redo_events}
-use Rattle.kern_journal.specs.Law.{IsDurable, IsUnnamed, AreDone, IsReady, IsSettled, MayCome, IsAllOrNone, IsRedone, CrashLaw, CutLaw}
-use Rattle.kern_journal.proofs.EventLemmas.{count_inside, pair_inside, words_have}
-use Rattle.kern_journal.proofs.WordSteps.{length_run, Spares, Shortened, shortened_then, Within, within_shortened}
-use Rattle.kern_journal.proofs.PhaseLemmas.{IsInJournal, take_past, one_value, phase_spares, kept_by, durable_kept, all_done, done_kept, count_in, words_in, words_behind, home_from_words, count_from_words, home_from_count, words_from_count, journal_from_homes, unnamed_spared, count_done, count_either}
-use Rattle.kern_journal.proofs.FinishLemmas.{IsList, list_over, home_over, addresses, IsFinish, finish_is, committed_list, ready_list, own_values}
+use Rattle.kern_journal.specs.Journal.{IsHome, committed, pair_at, laid_over, journal_words, count_pair, finish_events}
+use Rattle.kern_journal.specs.Law.{IsDurable, IsUnnamed, AreDone}
+use Rattle.kern_journal.proofs.EventLemmas.{count_inside, words_have}
+use Rattle.kern_journal.proofs.WordSteps.{length_run, Spares, shortened_then, Within, within_shortened}
+use Rattle.kern_journal.proofs.PhaseLemmas.{IsInJournal, take_past, one_value, kept_by, durable_kept, all_done, count_in, words_in, words_behind, home_from_count, words_from_count, journal_from_homes, unnamed_spared, count_either}
+use Rattle.kern_journal.proofs.FinishLemmas.{IsList, list_over, home_over, addresses}
 
 -- what a crash leaves of one word
 pub within_crash : (words mid : List Word) (addr : ℕ) → MayLeave words mid → addr / 8 < length words → Within (word_at words addr) (word_at mid addr)

@@ -1,16 +1,14 @@
 -- The journal's events: one pair more, and where they are.
-use Rattle.std.proofs.Common.{◌≡◌, ℕ, ◌+◌, ◌*◌, ◌/◌, ◌%◌, ◌<◌, ◌≤◌, zero, suc, Bool, true, false, if◌then◌else◌, List, [], ◌∷◌, ◌++◌, take, drop, length, get_or, map, nat_eq, refl, sym, ap, subst, ◌∙◌, inl, inr, ◌⊎◌, arith, All}
-use Rattle.std.specs.Prelude.{nat_lt, fold, ⊤}
+use Rattle.std.proofs.Common.{◌≡◌, ℕ, ◌+◌, ◌/◌, ◌<◌, ◌≤◌, suc, Bool, if◌then◌else◌, List, [], ◌∷◌, ◌++◌, take, length, get_or, map, nat_eq, sym, ap, ◌∙◌, arith, All}
+use Rattle.std.specs.Prelude.{nat_lt, fold}
 use Rattle.std.specs.List.{range_with_len}
 use Rattle.std.proofs.lemmas.Bool.{cond_both, eq-eqb, ne_eqb}
-use Rattle.std.proofs.lemmas.List.{append_assoc, take_more, length-take-le}
+use Rattle.std.proofs.lemmas.List.{take_more, length-take-le}
 use Rattle.std.proofs.lemmas.List.Elements.{All-nil, All-cons, All-head, All-tail, All-append, All-map, All-weaker}
 use Rattle.std.proofs.lemmas.List.FromFn.{map-range_with_len_more}
 use Rattle.std.proofs.lemmas.List.Sums.{fold-append}
-use Rattle.zo_layout.specs.Layout.{pair_address, pair_value, pair_capacity, committed_word, journal_pages}
-use Rattle.pm_words.specs.Word.{Word}
+use Rattle.zo_layout.specs.Layout.{pair_address, pair_value, pair_capacity, committed_word}
 use Rattle.pm_words.specs.Memory.{IsAddress, HasPages}
-use Rattle.kern_journal.specs.declared.inner.Inner.{Inner}
 use Rattle.kern_journal.specs.declared.inner.Inner.TheVariants.{Store, Flush, Fence}
 use Rattle.kern_journal.specs.Inner.{HasAddress, line_of, with_line, lines_of, stores_of, flushes_at, phase}
 use Rattle.kern_journal.specs.Journal.{laid_over, journal_words, count_pair, finish_events, journal_events}

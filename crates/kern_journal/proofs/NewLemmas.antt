@@ -1,5 +1,5 @@
 -- The journal of a new image: nothing is committed.
-use Rattle.std.proofs.Common.{◌≡◌, ℕ, ◌+◌, ◌*◌, ◌/◌, ◌%◌, ◌<◌, ◌≤◌, Bool, if◌then◌else◌, List, [], ◌∷◌, length, map, get_or, nat_eq, nat_lt, refl, sym, ap, subst, ◌∙◌, arith, All}
+use Rattle.std.proofs.Common.{◌≡◌, ℕ, ◌*◌, ◌%◌, ◌<◌, ◌≤◌, List, [], ◌∷◌, length, get_or, nat_eq, nat_lt, refl, sym, ap, subst, ◌∙◌, arith}
 use Rattle.std.specs.List.{IsDistinct}
 use Rattle.std.proofs.lemmas.Bool.{lt-ltb, cond-true}
 use Rattle.std.proofs.lemmas.List.Elements.{All-nil, All-cons}
@@ -7,9 +7,9 @@ use Rattle.std.proofs.lemmas.List.FromFn.{get_or-map-range_with_len, length-map-
 use Rattle.zo_layout.specs.Layout.{committed_word, owner_table}
 use Rattle.pm_words.specs.Word.{Word, settled}
 use Rattle.std.proofs.lemmas.Map.Keys.{IsDistinct-cons}
-use Rattle.pm_words.specs.Memory.{word_at, all_durable, IsPages, HasPages}
+use Rattle.pm_words.specs.Memory.{all_durable, IsPages, HasPages}
 use Rattle.pm_words.proofs.WordLemmas.{word_at_all_durable, has_pages}
-use Rattle.tr_types.specs.NewImage.{new_image, new_word, word_in_page}
+use Rattle.tr_types.specs.NewImage.{new_image, new_word}
 use Rattle.tr_types.proofs.FreePages.{size_opened}
 use Rattle.kern_journal.specs.Journal.{IsHome, IsReadable}
 use Rattle.kern_journal.specs.Law.{IsDurable, IsReady}
@@ -34,7 +34,6 @@ idle_new words pages least is = subst (λ (ws : List Word). IsDurable ws committ
 pub readable_new : (words : List Word) (pages : ℕ) → 64 ≤ pages → words ≡ all_durable (new_image pages) → IsReadable words
 readable_new words pages least is = idle_readable words (idle_new words pages least is)
 
-
 none_apart : IsDistinct nat_eq []
 unfolding IsDistinct
 none_apart = tt
@@ -46,7 +45,7 @@ ready_new words is = record {
   room = let h = len in omega (arith, h);
   different = IsDistinct-cons nat_eq 163840 (163904 ∷ []) (refl, tt) (IsDistinct-cons nat_eq 163904 [] tt none_apart);
   homes = All-cons (λ (p : ℕ × ℕ). IsHome (length words) p.0) (163840, 7) ((163904, 9) ∷ []) (home 163840 refl (omega arith) (omega arith))
-    (All-cons (λ (p : ℕ × ℕ). IsHome (length words) p.0) (163904, 9) [] (home 163904 refl (omega arith) (omega arith)) (All-nil (λ (p : ℕ × ℕ). IsHome (length words) p.0)));
+      (All-cons (λ (p : ℕ × ℕ). IsHome (length words) p.0) (163904, 9) [] (home 163904 refl (omega arith) (omega arith)) (All-nil (λ (p : ℕ × ℕ). IsHome (length words) p.0)));
   idle = idle_new words 64 (omega arith) is;
 }
   where

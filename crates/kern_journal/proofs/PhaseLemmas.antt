@@ -1,20 +1,19 @@
 -- What a phase of the journal leaves: a list of words that are stored, flushed and fenced.
-use Rattle.std.proofs.Common.{◌≡◌, ◌≢◌, ℕ, ◌+◌, ◌-◌, ◌*◌, ◌/◌, ◌%◌, ◌<◌, ◌≤◌, zero, suc, Bool, true, false, if◌then◌else◌, List, [], ◌∷◌, ◌++◌, take, drop, length, get_or, map, nat_eq, refl, sym, ap, subst, ◌∙◌, inl, inr, ◌⊎◌, arith, All, Contains}
+use Rattle.std.proofs.Common.{◌≡◌, ◌≢◌, ℕ, ◌+◌, ◌-◌, ◌*◌, ◌/◌, ◌%◌, ◌<◌, ◌≤◌, zero, suc, Bool, if◌then◌else◌, List, [], ◌∷◌, ◌++◌, take, length, get_or, nat_eq, refl, sym, ap, subst, ◌∙◌, inl, inr, ◌⊎◌, arith, All, Contains}
 use Rattle.std.specs.Prelude.{fold}
 use Rattle.std.proofs.lemmas.Bool.{cases_eq, cases_lt, eq-eqb, ne_eqb}
-use Rattle.std.proofs.lemmas.List.{append-nil}
-use Rattle.std.proofs.lemmas.List.Elements.{All-nil, All-cons, All-head, All-tail, All-append, All-map, All-take, Contains-append_cases, Contains-push_cases}
+use Rattle.std.proofs.lemmas.List.Elements.{All-nil, All-cons, All-head, All-tail, All-append, All-map, All-take, Contains-push_cases}
 use Rattle.std.proofs.lemmas.List.Sums.{fold-append}
 use Rattle.zo_layout.specs.Layout.{pair_address, pair_value, pair_capacity, committed_word, journal_pages}
-use Rattle.pm_words.specs.Word.{Word, stored, fenced, crash_list}
-use Rattle.pm_words.specs.Memory.{word_at, IsAddress, HasPages}
+use Rattle.pm_words.specs.Word.{Word, stored, crash_list}
+use Rattle.pm_words.specs.Memory.{word_at, IsAddress}
 use Rattle.kern_journal.specs.declared.inner.Inner.{Inner}
 use Rattle.kern_journal.specs.declared.inner.Inner.TheVariants.{Store, Flush, Fence}
-use Rattle.kern_journal.specs.Inner.{kernel_thread, made_all, lines_of, stores_of, flushes_at, phase}
+use Rattle.kern_journal.specs.Inner.{made_all, lines_of, stores_of, flushes_at, phase}
 use Rattle.kern_journal.specs.Journal.{IsHome, laid_over, journal_words, count_pair}
 use Rattle.kern_journal.specs.Law.{IsDurable, IsUnnamed, AreDone}
-use Rattle.kern_journal.proofs.WordSteps.{come, length_run, run_at, Spares, Shortened, run_spared, still_durable, Within, within_shortened, flushed_durable}
-use Rattle.kern_journal.proofs.LaidLemmas.{IsNamed, named_at, has_line, laid_named, laid_own, words_apart}
+use Rattle.kern_journal.proofs.WordSteps.{come, run_at, Spares, Shortened, run_spared, still_durable, within_shortened, flushed_durable}
+use Rattle.kern_journal.proofs.LaidLemmas.{IsNamed, named_at, has_line, laid_named}
 
 -- the stores of a phase lay the pairs over a word
 stored_present : (addr : ℕ) (p : ℕ × ℕ) (w : Word) → addr % 8 ≡ 0 → p.0 % 8 ≡ 0 → (come addr w (Store p.0 p.1)).present ≡ (if nat_eq p.0 addr then p.1 else w.present)

@@ -1,6 +1,6 @@
 -- The journal: a list of pairs (address, value) that are stored all or not at all. The pages of the journal hold how many
 -- pairs are committed, and for each its address and its value.
-use Rattle.std.specs.Prelude.{◌≡◌, ℕ, ◌+◌, ◌/◌, ◌≤◌, ◌==◌, List, [], ◌∷◌, ◌++◌, map, length, fold, All, if◌then◌else◌}
+use Rattle.std.specs.Prelude.{ℕ, ◌+◌, ◌/◌, ◌≤◌, ◌==◌, List, [], ◌∷◌, ◌++◌, map, length, fold, All, if◌then◌else◌}
 use Rattle.std.specs.List.{range_with_len}
 use Rattle.zo_layout.specs.Layout.{page_at, owner_table, committed_word, pair_address, pair_value, pair_capacity}
 use Rattle.pm_words.specs.Word.{Word}

@@ -1,5 +1,6 @@
 // Lists of words that are stored all or not at all.
-ghost use Rattle.std.specs.Prelude.{◌≡◌, [], ◌∷◌, length, IfOk, OnOk};
+ghost use Rattle.std.specs.Prelude.{◌≡◌, [], ◌∷◌, length, All, IfOk, OnOk};
+ghost use Rattle.pm_words.specs.Memory.{IsAddress};
 ghost use Rattle.kern_journal.specs.Journal.{IsReadable};
 ghost use Rattle.kern_journal.specs.Law.{IsReady};
 
@@ -70,19 +71,10 @@ fn a_pair_is_applied(rt: HostRuntime) -> Result<(), Fail> {
 }
 
 #[test]
-fn no_event_is_made(rt: HostRuntime) -> Result<(), Fail> {
-    let alloc = rt.alloc();
-    let mut words = small(alloc)?;
-    assert_eq!(rt; apply_first(alloc, &mut words, &PAIRS, 0), Ok(()));
-    assert_eq!(rt; (words.load(FIRST), words.load(4160)), (0, 0));
-    Ok(())
-}
-
-#[test]
 fn too_many_pairs(rt: HostRuntime) -> Result<(), Fail> {
     let alloc = rt.alloc();
     let mut words = small(alloc)?;
-    let pairs = vec![in alloc; (FIRST, 7); 765]?;
+    let pairs = many(alloc, 765)?;
     assert_eq!(rt;
         apply(alloc, &mut words, &pairs),
         Err(JournalFault::TooMany)
@@ -105,7 +97,7 @@ fn nothing_to_redo(rt: HostRuntime) -> Result<(), Fail> {
 fn committed_pairs_are_read_before_they_are_stored(rt: HostRuntime) -> Result<(), Fail> {
     let alloc = rt.alloc();
     let mut words = small(alloc)?;
-    assert_eq!(rt; cut(alloc, &mut words, &PAIRS, 9, Choice::None), Ok(()));
+    cut(alloc, &mut words, &PAIRS, 9, Choice::None)?;
     assert_eq!(rt; (committed_count(&words), words.load(FIRST)), (2, 0));
     assert_eq!(rt;
         (kernel_word(&words, FIRST), kernel_word(&words, SECOND)),
@@ -114,8 +106,8 @@ fn committed_pairs_are_read_before_they_are_stored(rt: HostRuntime) -> Result<()
     Ok(())
 }
 
-// Of 17 events: 4 stores, a flush and a fence in the journal; from the 7th on the pairs' number is
-// present, from the 9th on it is durable.
+// Of 17 events the first 6 write the pairs, and none is made at 0; from the 7th on the pairs' number
+// is present, and from the 9th on it is durable.
 #[test]
 fn a_crash_leaves_all_or_none(rt: HostRuntime) -> Result<(), Fail> {
     for k in 0..18 {
@@ -133,6 +125,17 @@ fn a_crash_leaves_all_or_none(rt: HostRuntime) -> Result<(), Fail> {
         );
     }
     Ok(())
+}
+
+// So many pairs.
+fn many(alloc: Global, count: usize) -> Result<Vec<(u64, u64)>, NoMemory>
+    ensures { IfOk result (λ pairs. All (λ p. IsAddress 32768 p.0) pairs.items) }
+{
+    let mut pairs = Vec::new(alloc);
+    for _ in 0..count {
+        pairs.push((FIRST, 7))?;
+    }
+    Ok(pairs)
 }
 
 // What the two words hold after a crash in the midst of storing them, and `redo`.
