@@ -8,7 +8,7 @@ use Rattle.tr_types.specs.Journal.{kernel_word}
 use Rattle.tr_types.specs.KernelTables.{owner_fails, entry_fails, bucket_fails}
 use Rattle.tr_types.specs.KernelRules.{Stage, FailsFirst, FailsIn, IsFinishable, IsFirstFault, IsSoundKernel, Passes}
 use Rattle.tr_types.specs.KernelRules as rules
-use Rattle.kern_view.specs.Reads.{AreGoodTables, HasSuperblock, IsLeast}
+use Rattle.kern_view.specs.Parts.{AreGoodTables, HasSuperblock, IsLeast}
 
 -- ---- the tables, in order of address
 

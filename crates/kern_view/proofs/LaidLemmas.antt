@@ -5,7 +5,7 @@ use Rattle.std.proofs.lemmas.List.Sums.{fold-append}
 use Rattle.std.specs.Map.{lookup}
 use Rattle.tr_types.specs.Journal.{laid_over}
 
-pub same_either_way : (a b : ℕ) → nat_eq a b ≡ nat_eq b a
+same_either_way : (a b : ℕ) → nat_eq a b ≡ nat_eq b a
 same_either_way a b = by (cases_eq a b)
   where
     by : (a ≡ b) ⊎ (a ≡ b → ⊥) → nat_eq a b ≡ nat_eq b a

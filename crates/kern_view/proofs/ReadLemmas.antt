@@ -1,6 +1,6 @@
 use Rattle.std.proofs.Common.{◌≡◌, ℕ, ◌+◌, ◌-◌, ◌<◌, ◌≤◌, List, [], ◌∷◌, ◌++◌, length, map, get_or, Option, ap, sym, ◌∙◌, arith, take, subst, nat_le}
 use Rattle.std.specs.List.{range_with_len, flat_map}
-use Rattle.std.proofs.lemmas.Bool.{cond-true, cond-false, le-leb, lt-leb}
+use Rattle.std.proofs.lemmas.Bool.{cond-true, le-leb}
 use Rattle.std.proofs.lemmas.List.{map-id, append-nil}
 use Rattle.std.proofs.lemmas.List.FromFn.{length-map-range_with_len, get_or-map-range_with_len, map-range_with_len_more}
 use Rattle.std.proofs.lemmas.Grind.{flat_map-append}
@@ -27,6 +27,17 @@ pub paths_to_end : (words : List Word) (n : ℕ) → n ≡ 256 → map (path_the
 unfolding all_ids
 paths_to_end words n is = ap (λ (k : ℕ). map (path_there (pages_of words) (kernel_word words)) (range_with_len 1 k)) is
 
+-- the path of one more coffer
+pub paths_more : (f : ℕ → Option (List ℕ)) (id : ℕ) (new old : List (Option (List ℕ))) (path : Option (List ℕ))
+    → 1 ≤ id → new ≡ old ++ path ∷ [] → old ≡ map f (range_with_len 1 (id - 1)) → path ≡ f id → new ≡ map f (range_with_len 1 ((id + 1) - 1))
+paths_more f id new old path least pushed before is =
+    let next : (id - 1) + 1 ≡ (id + 1) - 1 = omega arith in
+    pushed
+    ∙ ap (λ (paths : List (Option (List ℕ))). paths ++ path ∷ []) before
+    ∙ ap (λ (path : Option (List ℕ)). map f (range_with_len 1 (id - 1)) ++ path ∷ []) is
+    ∙ sym (map-range_with_len_more f 1 (id - 1) id (omega arith))
+    ∙ ap (λ (n : ℕ). map f (range_with_len 1 n)) next
+
 range_more : (n : ℕ) → range_with_len 0 (n + 1) ≡ range_with_len 0 n ++ n ∷ []
 range_more n =
     sym (map-id (range_with_len 0 (n + 1))) ∙ map-range_with_len_more (λ (k : ℕ). k) 0 n n (omega arith)
@@ -47,9 +58,3 @@ path_end pages at id n len bytes is end long fits =
     ap (take len) (is ∙ ap (λ (k : ℕ). flat_map f (range_with_len 0 k)) end) ∙ ap (λ (k : ℕ). take k (path_bytes pages at id)) long
     ∙ sym (cond-true (nat_le (path_length pages at id) 440) (take (path_length pages at id) (path_bytes pages at id)) []
     (le-leb (path_length pages at id) 440 (subst (λ (k : ℕ). k ≤ 440) long fits)))
-
--- an entry that says more than it has room for has no path
-pub no_path : (pages : ℕ) (at : ℕ → ℕ) (id len : ℕ) → len ≡ path_length pages at id → 440 < len → [] ≡ path_in pages at id
-no_path pages at id len long more =
-    sym (cond-false (nat_le (path_length pages at id) 440) (take (path_length pages at id) (path_bytes pages at id)) []
-    (lt-leb (path_length pages at id) 440 (subst (λ (k : ℕ). 440 < k) long more)))

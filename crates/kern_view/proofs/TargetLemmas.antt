@@ -7,7 +7,7 @@ use Rattle.pm_words.specs.Memory.{word_at}
 use Rattle.tr_types.specs.KernelView.{pages_of}
 use Rattle.tr_types.specs.Journal.{IsHome, committed, committed_count, pair_at}
 use Rattle.tr_types.specs.KernelRules.{IsFinishable}
-use Rattle.kern_view.specs.Reads.{IsTarget}
+use Rattle.kern_view.specs.Parts.{IsTarget}
 
 abbrev IsSpared : ℕ → Type 0
 IsSpared addr = (addr ≢ signature_word) × (addr ≢ version_word) × (addr ≢ count_word)

@@ -4,7 +4,7 @@ ghost use Rattle.std.specs.List.{list_all, filter};
 ghost use Rattle.tr_types.specs.KernelView.{pages_of};
 ghost use Rattle.tr_types.specs.Journal.{kernel_word};
 ghost use Rattle.tr_types.specs.KernelTables as spec;
-ghost use Rattle.kern_view.specs.Reads.{IsLeast, is_in_bucket};
+ghost use Rattle.kern_view.specs.Parts.{IsLeast, is_in_bucket};
 
 use crate::tables::{COFFERS, Tables};
 use zo_layout::{coffer_next, path_bucket};

@@ -5,7 +5,7 @@ ghost use Rattle.tr_types.specs.KernelView.{pages_of};
 ghost use Rattle.tr_types.specs.Journal.{kernel_word};
 ghost use Rattle.tr_types.specs.KernelTables as spec;
 ghost use Rattle.tr_types.specs.Paths.{same_text};
-ghost use Rattle.kern_view.specs.Reads.{IsLeast, claims_fail, fields_fail, has_path, perm_fails};
+ghost use Rattle.kern_view.specs.Parts.{IsLeast, claims_fail, fields_fail, has_path, perm_fails};
 
 use crate::hashed::HashedPath;
 use crate::paths::is_path_text;

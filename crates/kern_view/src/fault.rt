@@ -3,7 +3,7 @@ ghost use Rattle.std.specs.Prelude.{◌≡◌, length, MatchOption, IfOk};
 ghost use Rattle.pm_words.specs.Memory.{HasPages};
 ghost use Rattle.tr_types.specs.KernelRules.{FailsFirst, IsFirstFault, IsSoundKernel};
 ghost use Rattle.tr_types.specs.KernelRules as rules;
-ghost use Rattle.kern_view.specs.Reads.{AreGoodTables};
+ghost use Rattle.kern_view.specs.Parts.{AreGoodTables};
 
 use crate::superblock::{is_finishable, superblock_fault};
 use crate::tables::Tables;

@@ -3,7 +3,7 @@ ghost use Rattle.std.specs.Prelude.{◌≡◌, ◌↔◌, ◌<◌, ◌≤◌, �
 ghost use Rattle.pm_words.specs.Memory.{word_at, HasPages};
 ghost use Rattle.tr_types.specs.KernelView.{pages_of};
 ghost use Rattle.tr_types.specs.KernelRules as rules;
-ghost use Rattle.kern_view.specs.Reads.{HasSuperblock, IsTarget};
+ghost use Rattle.kern_view.specs.Parts.{HasSuperblock, IsTarget};
 
 use kern_journal::{capacity, committed_count};
 use pm_words::Words;

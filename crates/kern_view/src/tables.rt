@@ -5,7 +5,8 @@ ghost use Rattle.pm_words.specs.Memory.{IsAddress, HasPages};
 ghost use Rattle.tr_types.specs.KernelView.{pages_of};
 ghost use Rattle.tr_types.specs.Journal.{kernel_word, IsReadable};
 ghost use Rattle.tr_types.specs.KernelTables as spec;
-ghost use Rattle.kern_view.specs.Reads.{path_there, paths_there, IsLeast};
+ghost use Rattle.kern_view.specs.Reads.{path_there, paths_there};
+ghost use Rattle.kern_view.specs.Parts.{IsLeast};
 
 use crate::hashed::HashedPath;
 use crate::view::View;
@@ -54,6 +55,7 @@ impl<'a> Model for Tables<'a> {
 }
 
 impl<'a> Tables<'a> {
+    /// The tables of an image whose committed pairs can be finished.
     pub fn read(alloc: Global, words: &'a Words) -> Result<Tables<'a>, NoMemory>
         requires { IsReadable words.now }
         ensures { IfOk result (λ tables. tables ≡ words.now) }

@@ -1,28 +1,15 @@
 // Damaged images of 64 pages, each place worked out from the layout: the journal's pages are 1 to 3, the
 // owner table is page 4, the coffer table begins in page 5, and the path buckets are in page 37.
-ghost use Rattle.std.specs.Prelude.{◌≡◌, length, IfOk};
+ghost use Rattle.std.specs.Prelude.{◌≡◌, length};
 
 use crate::{first_fault, is_path_text};
+use kern_journal::new_image;
 use pm_words::{NoMemory, Words};
 use std::alloc::Global;
 use std::test::Fail;
 
 /// Bytes of 64 pages.
 const BYTES: u64 = 262_144;
-
-/// The words of a new image of 64 pages that aren't 0, but for those of the owner table.
-const NEW: [(u64, u64); 10] = [
-    (0, 0x5952_5553_4145_5254),
-    (8, 1),
-    (16, 64),
-    (20480, 1),
-    (20504, 0o666),
-    (20512, 38),
-    (20520, 39),
-    (20536, 1),
-    (20552, 0x2f),
-    (153584, 1),
-];
 
 /// A second coffer `/a`, of pages 40 and 41, in bucket 45.
 const SECOND: [(u64, u64); 9] = [
@@ -49,35 +36,16 @@ fn put(words: &mut Words, pairs: &[(u64, u64)]) -> Result<(), NoMemory>
     Ok(())
 }
 
-fn put_owners(words: &mut Words) -> Result<(), NoMemory>
-    requires { length words.old ≡ 32768 }
-    ensures { length words.new ≡ length words.old }
-{
-    for page in 0..38 {
-        words.store(16384 + 8 * page, 65535)?;
-    }
-    put(words, &[(16688, 1), (16696, 1)])
-}
-
-fn new_image(alloc: Global) -> Result<Words, NoMemory>
-    ensures { IfOk result (λ words. length words ≡ 32768) }
-{
-    let mut words = Words::blank(alloc, 64)?;
-    put(&mut words, &NEW)?;
-    put_owners(&mut words)?;
-    Ok(words)
-}
-
 // The first fault of a new image with these words changed.
 fn fault_with(alloc: Global, damage: &[(u64, u64)]) -> Result<Option<u64>, NoMemory> {
-    let mut words = new_image(alloc)?;
+    let mut words = new_image(alloc, 64)?;
     put(&mut words, damage)?;
     first_fault(alloc, &words)
 }
 
 // The first fault of a new image with a second coffer, and with these words changed.
 fn fault_of_two(alloc: Global, damage: &[(u64, u64)]) -> Result<Option<u64>, NoMemory> {
-    let mut words = new_image(alloc)?;
+    let mut words = new_image(alloc, 64)?;
     put(&mut words, &SECOND)?;
     put(&mut words, damage)?;
     first_fault(alloc, &words)
