@@ -1,31 +1,30 @@
 -- A coffer is added: what is read of its entry, and what the table keeps.
-use Rattle.std.proofs.Common.{◌≡◌, ◌≢◌, ℕ, zero, suc, ◌+◌, ◌*◌, ◌<◌, ◌≤◌, ◌⊎◌, List, [], ◌∷◌, ◌++◌, length, take, get_or, map, find, Option, Some, None, Bool, true, false, not, ◌&&◌, cond, nat_le, nat_eq, refl, ap, sym, subst, ◌∙◌, inl, inr, arith, le-leb}
-use Rattle.std.specs.List.{range_with_len, flat_map, list_any}
+use Rattle.std.proofs.Common.{◌≡◌, ℕ, ◌+◌, ◌<◌, ◌≤◌, ◌⊎◌, List, [], ◌∷◌, length, take, get_or, find, Some, Bool, true, false, not, ◌&&◌, cond, nat_le, refl, ap, sym, subst, ◌∙◌, inl, inr, arith, le-leb}
+use Rattle.std.specs.List.{range_with_len, flat_map}
 use Rattle.std.specs.Int.{w64, to_le_bytes}
-use Rattle.std.specs.Cmp.{IsEquivalence}
-use Rattle.std.proofs.lemmas.Bool.{cases_eq, cases_Bool, true≢false, not-true, and_parts}
+use Rattle.std.proofs.lemmas.Bool.{cases_Bool, not-true}
 use Rattle.std.proofs.lemmas.Option.{same_Some}
 use Rattle.std.proofs.lemmas.Cmp.{nat_list_eq_equiv}
-use Rattle.std.proofs.lemmas.List.{get_or-append-add, length-append}
+use Rattle.std.proofs.lemmas.List.{get_or-append-add}
 use Rattle.std.proofs.lemmas.List.FromFn.{length-map-range_with_len, get_or-map-range_with_len}
-use Rattle.zo_layout.specs.Layout.{word_of, coffer_entry, coffer_state, coffer_next, coffer_path_word, path_bucket, bucket_of}
+use Rattle.zo_layout.specs.Layout.{word_of, coffer_entry, coffer_state, coffer_path_word, path_bucket, bucket_of}
 use Rattle.tr_types.specs.Paths.{same_text, is_path_text}
 use Rattle.tr_types.specs.Journal.{laid_over}
 use Rattle.tr_types.specs.Kernel.{read_after}
 use Rattle.tr_types.specs.KernelTables.{Coffer, all_ids, is_there, is_in_chain, stands_in, path_in, path_bytes, coffer_in}
 use Rattle.tr_types.specs.PathMap.{free_id, entry_words, text_words, from_address, added_pairs}
 use Rattle.kern_roots.specs.Changes.{is_taken}
-use Rattle.kern_roots.specs.Laws.{PassesRoots, SameRoots, KeepsOwners, ChangesOne, IsNew, AddLaw}
+use Rattle.kern_roots.specs.Laws.{AddLaw}
 use Rattle.kern_roots.proofs.ChangingPairs.{text_word}
 use Rattle.kern_roots.proofs.ChangingSearch.{has_path_at, taken_by_ids}
 use Rattle.kern_roots.proofs.ChangingLayout.{first_word, same_entry_word, entry_not_bucket, same_bucket}
 use Rattle.kern_roots.proofs.ChangingReads.{laid_append, laid_past, laid_one, laid_miss, laid_hit}
 use Rattle.kern_roots.proofs.ChangingLists.{id_in_all, all_are_ids, in_first, in_rest, not_passed}
-use Rattle.kern_roots.proofs.ChangingChain.{next_in, bucket_below}
+use Rattle.kern_roots.proofs.ChangingChain.{bucket_below}
 use Rattle.kern_roots.proofs.ChangingEntries.{same_coffer, flat_same}
 use Rattle.kern_roots.proofs.ChangingText.{chunk, word_bytes, chunks_are}
 use Rattle.kern_roots.proofs.ChangingSets.{OthersStay, others_pass}
-use Rattle.kern_roots.proofs.ChangingAdd.{Arrives, arrived}
+use Rattle.kern_roots.proofs.ChangingAdd.{arrived}
 
 -- the first that passes passes, and is in the list
 found_passes : (p : ℕ → Bool) (xs : List ℕ) (x : ℕ) → find p xs ≡ Some x → (is_in_chain x xs ≡ true) × (p x ≡ true)

@@ -1,12 +1,11 @@
 -- Chains of coffers, and when the rule of a bucket holds of them.
-use Rattle.std.proofs.Common.{◌≡◌, ◌≢◌, ℕ, zero, suc, ◌+◌, ◌-◌, ◌<◌, ◌≤◌, ◌⊎◌, List, [], ◌∷◌, length, filter, Bool, true, false, not, ◌&&◌, cond, ◌==◌, nat_eq, refl, ap, sym, ◌∙◌, inl, inr, arith, eq-eqb, ne_eqb, eqb-true}
-use Rattle.std.specs.List.{list_any, list_all}
+use Rattle.std.proofs.Common.{◌≡◌, ℕ, zero, suc, ◌<◌, ◌≤◌, ◌⊎◌, List, [], ◌∷◌, length, filter, Bool, true, false, not, ◌&&◌, cond, ◌==◌, refl, ap, sym, ◌∙◌, inl, inr, arith, eq-eqb, ne_eqb, eqb-true}
+use Rattle.std.specs.List.{list_all}
 use Rattle.std.proofs.lemmas.Bool.{cases_Bool, cases_eq, and_parts, and_from, not-true, not-false, not_from_false, eqb-false, false_from_ne_true, true≢false, le-leb}
-use Rattle.zo_layout.specs.Layout.{coffer_entry, coffer_next, path_bucket, bucket_of}
-use Rattle.tr_types.specs.KernelTables.{chain_from, chain_in, longest_chain, all_ids, is_id, is_in_chain, none_twice, stands_in, path_in, belongs, bucket_fails}
-use Rattle.tr_types.specs.PathMap.{leads_to}
-use Rattle.kern_roots.proofs.ChangingChain.{next_in, is_id_most}
-use Rattle.kern_roots.proofs.ChangingLists.{all_at, all_from, in_first, in_rest, in_cases, in_filter, from_filter, id_in_all, all_are_ids}
+use Rattle.zo_layout.specs.Layout.{bucket_of}
+use Rattle.tr_types.specs.KernelTables.{chain_from, chain_in, all_ids, is_id, is_in_chain, none_twice, stands_in, path_in, belongs, bucket_fails}
+use Rattle.kern_roots.proofs.ChangingChain.{is_id_most}
+use Rattle.kern_roots.proofs.ChangingLists.{all_at, all_from, in_first, in_rest, in_filter, from_filter, id_in_all}
 
 -- A list with no number twice, of numbers from 1 to n, has at most n of them.
 

@@ -1,20 +1,20 @@
 -- A coffer goes: its bucket's chain, and the others. Then what is read once it is dropped.
-use Rattle.std.proofs.Common.{◌≡◌, ◌≢◌, ℕ, zero, suc, ◌+◌, ◌<◌, ◌≤◌, ◌⊎◌, List, [], ◌∷◌, length, replicate, get_or, Bool, true, false, not, ◌&&◌, ◌||◌, cond, ◌==◌, nat_lt, nat_eq, refl, ap, sym, subst, ◌∙◌, inl, inr, arith, eq-eqb, ne_eqb}
-use Rattle.std.proofs.lemmas.Bool.{cases_eq, cases_Bool, true≢false, or_from, not_from_false, not-true, eqb-false}
+use Rattle.std.proofs.Common.{◌≡◌, ℕ, ◌+◌, ◌<◌, ◌≤◌, ◌⊎◌, List, [], ◌∷◌, length, get_or, Bool, true, false, not, ◌||◌, cond, ◌==◌, nat_lt, nat_eq, refl, ap, sym, subst, ◌∙◌, inl, inr, arith, ne_eqb}
+use Rattle.std.proofs.lemmas.Bool.{cases_eq, cases_Bool, true≢false, not_from_false, not-true, eqb-false}
 use Rattle.std.proofs.lemmas.List.{get_or-replicate, length-replicate}
 use Rattle.zo_layout.specs.Layout.{word_of, coffer_entry, coffer_state, coffer_next, path_bucket, bucket_of}
 use Rattle.tr_types.specs.Journal.{laid_over}
 use Rattle.tr_types.specs.Kernel.{read_after}
-use Rattle.tr_types.specs.KernelTables.{coffer_in, coffer_fails, entry_fails, is_there, stands_in, path_in, chain_from, chain_in, longest_chain, is_in_chain, none_twice, belongs, bucket_fails}
-use Rattle.tr_types.specs.PathMap.{leads_to, leading_word, no_words, from_address, with_pair, dropped_pairs}
-use Rattle.kern_roots.specs.Laws.{PassesRoots, SameRoots, KeepsOwners, ChangesOne, DropLaw}
+use Rattle.tr_types.specs.KernelTables.{is_there, stands_in, path_in, chain_in, longest_chain, is_in_chain, none_twice, belongs, bucket_fails}
+use Rattle.tr_types.specs.PathMap.{leading_word, no_words, from_address, with_pair, dropped_pairs}
+use Rattle.kern_roots.specs.Laws.{PassesRoots, DropLaw}
 use Rattle.kern_roots.proofs.ChangingPairs.{placed}
 use Rattle.kern_roots.proofs.ChangingLayout.{first_word, same_entry_word, entry_not_bucket, same_bucket}
 use Rattle.kern_roots.proofs.ChangingReads.{laid_past, laid_one, laid_miss, laid_hit, laid_first, miss_from}
 use Rattle.kern_roots.proofs.ChangingLists.{in_filter, from_filter}
 use Rattle.kern_roots.proofs.ChangingChain.{next_in, bucket_below}
 use Rattle.kern_roots.proofs.ChangingEntries.{same_state, same_path_in, same_coffer, coffer_is_there, free_rule}
-use Rattle.kern_roots.proofs.ChangingBuckets.{Holds, holds_at, holds_from, chain_short, Belongs, belongs_parts, belongs_from, once_in_part, without}
+use Rattle.kern_roots.proofs.ChangingBuckets.{Holds, holds_at, holds_from, chain_short, belongs_parts, belongs_from, once_in_part, without}
 use Rattle.kern_roots.proofs.ChangingMoves.{bucket_stays, leads_is, Leaves, removed, longest}
 use Rattle.kern_roots.proofs.ChangingSets.{OthersStay, others_pass}
 

@@ -1,13 +1,12 @@
 -- Entries of the coffer table: what the same words say, and when an entry passes after a change of another one.
-use Rattle.std.proofs.Common.{◌≡◌, ◌≢◌, ℕ, zero, suc, ◌+◌, ◌*◌, ◌<◌, ◌≤◌, ◌⊎◌, List, [], ◌∷◌, ◌++◌, take, Bool, true, false, not, ◌&&◌, ◌||◌, cond, ◌==◌, nat_le, nat_lt, codes, refl, ap, sym, ◌∙◌, inl, inr, arith, eq-eqb, ne_eqb}
+use Rattle.std.proofs.Common.{◌≡◌, ℕ, zero, suc, ◌+◌, ◌<◌, ◌≤◌, ◌⊎◌, List, [], ◌++◌, take, Bool, true, false, not, ◌&&◌, ◌||◌, cond, ◌==◌, nat_le, nat_lt, codes, refl, ap, sym, ◌∙◌, inl, inr, arith, eq-eqb, ne_eqb}
 use Rattle.std.specs.List.{range_with_len, flat_map}
 use Rattle.std.specs.Int.{w64, to_le_bytes}
-use Rattle.std.proofs.lemmas.Bool.{cases_Bool, cases_lt, and_parts, and_left, or_parts, or_from, true≢false, cases_eq}
+use Rattle.std.proofs.lemmas.Bool.{cases_Bool, or_parts, or_from, cases_eq}
 use Rattle.zo_layout.specs.Layout.{word_of, coffer_entry, coffer_state, coffer_path_word, coffer_path_length}
 use Rattle.tr_types.specs.Paths.{same_text, is_path_text}
 use Rattle.tr_types.specs.KernelTables.{Coffer, owner_in, is_there, stands_in, path_bytes, path_in, coffer_in, all_ids, ids_in, is_mode, path_fails, pages_fail, path_stands_twice, coffer_fails, entry_fails}
 use Rattle.kern_roots.specs.Changes.{is_used}
-use Rattle.kern_roots.specs.Laws.{KeepsOwners}
 use Rattle.kern_roots.proofs.ChangingSearch.{used_is, range_of}
 use Rattle.kern_roots.proofs.ChangingLayout.{first_word}
 use Rattle.kern_roots.proofs.ChangingLists.{id_in_all, all_are_ids, in_filter, from_filter, none_passes, not_passed}

@@ -1,6 +1,6 @@
 -- Where the words of entries and buckets stand: all at different addresses.
-use Rattle.std.proofs.Common.{◌≡◌, ℕ, ◌+◌, ◌-◌, ◌*◌, ◌<◌, ◌≤◌, ap, sym, ◌∙◌, arith}
-use Rattle.zo_layout.specs.Layout.{word_of, page_at, coffer_table, bucket_page, coffer_entry, path_bucket}
+use Rattle.std.proofs.Common.{◌≡◌, ℕ, ◌+◌, ◌-◌, ◌*◌, ◌<◌, ◌≤◌, arith}
+use Rattle.zo_layout.specs.Layout.{word_of, coffer_table, bucket_page, coffer_entry, path_bucket}
 
 -- the same with the number of the first page of the table as a variable
 entry_place : (t id other i j : ℕ) → 1 ≤ id → 1 ≤ other → i < 64 → j < 64

@@ -1,8 +1,8 @@
 -- Lists of numbers: which tests all or some of them pass, and how many differ.
-use Rattle.std.proofs.Common.{◌≡◌, ℕ, zero, suc, ◌+◌, ◌-◌, ◌<◌, ◌≤◌, ◌⊎◌, List, [], ◌∷◌, length, filter, find, Option, Some, None, Bool, true, false, not, ◌&&◌, ◌||◌, cond, ◌==◌, nat_eq, refl, ap, sym, ◌∙◌, inl, inr, arith, eq-eqb, ne_eqb, eqb-true}
+use Rattle.std.proofs.Common.{◌≡◌, ℕ, zero, suc, ◌+◌, ◌<◌, ◌≤◌, ◌⊎◌, List, [], ◌∷◌, filter, Bool, true, false, cond, nat_eq, refl, ap, sym, ◌∙◌, inl, inr, arith, eq-eqb, eqb-true}
 use Rattle.std.specs.List.{range_with_len, list_any, list_all}
-use Rattle.std.proofs.lemmas.Bool.{and_parts, and_from, or_parts, or_from, or_left, or_right, or_cases, not-true, not-false, not_from_false, not_from_true, cases_eq, cases_Bool, eqb-false, true≢false}
-use Rattle.tr_types.specs.KernelTables.{all_ids, is_in_chain, none_twice, is_id}
+use Rattle.std.proofs.lemmas.Bool.{and_parts, and_from, or_parts, or_from, or_left, or_right, or_cases, cases_eq, cases_Bool, true≢false}
+use Rattle.tr_types.specs.KernelTables.{all_ids, is_in_chain}
 
 -- What holds of all elements of a list, and of each that is in it.
 

@@ -1,9 +1,9 @@
 -- Lists of pairs, and the words of an entry.
 use Rattle.std.proofs.Common.{◌≡◌, ℕ, zero, suc, ◌+◌, ◌-◌, ◌*◌, ◌<◌, ◌≤◌, ◌⊎◌, List, [], ◌∷◌, ◌++◌, map, length, take, drop, replicate, get_or, insert, min, Bool, true, false, not, cond, refl, ap, sym, ◌∙◌, inl, inr, arith, nat_lt, length-append, append-nil, add-one}
 use Rattle.std.specs.List.{enumerate_from, position_or_len, range_with_len, flat_map}
-use Rattle.std.specs.Int.{w64, to_le_bytes, from_le_bytes}
+use Rattle.std.specs.Int.{w64, from_le_bytes}
 use Rattle.std.proofs.lemmas.Bool.{cases_lt}
-use Rattle.std.proofs.lemmas.List.{take_all, drop_all, take_at, take-append-le, append_assoc, take-replicate, drop-replicate, take_more, length-take, length-drop, flat_map_more, length-replicate, replicate-append-replicate}
+use Rattle.std.proofs.lemmas.List.{take_all, take_at, take-append-le, append_assoc, drop-replicate, take_more, length-take, flat_map_more, length-replicate, replicate-append-replicate}
 use Rattle.std.proofs.lemmas.List.FromFn.{map-range_with_len_more, length-map-range_with_len}
 use Rattle.zo_layout.specs.Layout.{word_of, coffer_entry, coffer_next, path_bucket, bucket_of}
 use Rattle.tr_types.specs.PathMap as paths

@@ -1,6 +1,5 @@
 -- What is read once pairs are laid over what was read before.
-use Rattle.std.proofs.Common.{◌≡◌, ℕ, zero, suc, ◌+◌, ◌*◌, ◌<◌, ◌≤◌, List, [], ◌∷◌, ◌++◌, length, map, get_or, cond, Bool, nat_eq, refl, ap, sym, ◌∙◌, arith, eq-eqb, ne_eqb}
-use Rattle.std.specs.List.{enumerate_from}
+use Rattle.std.proofs.Common.{◌≡◌, ℕ, zero, suc, ◌+◌, ◌<◌, ◌≤◌, List, [], ◌∷◌, ◌++◌, length, get_or, cond, Bool, nat_eq, refl, ap, ◌∙◌, arith, eq-eqb, ne_eqb}
 use Rattle.zo_layout.specs.Layout.{word_of}
 use Rattle.tr_types.specs.Journal.{laid_over}
 use Rattle.tr_types.specs.PathMap.{from_address}

@@ -1,22 +1,20 @@
 -- A change of one entry: what the others keep. Then the changes of some fields before the chain's word.
-use Rattle.std.proofs.Common.{◌≡◌, ◌≢◌, ℕ, zero, suc, get_or, ◌+◌, ◌<◌, ◌≤◌, ◌⊎◌, List, [], ◌∷◌, Bool, true, false, refl, ap, sym, subst, ◌∙◌, inl, inr, arith}
+use Rattle.std.proofs.Common.{◌≡◌, ℕ, get_or, ◌+◌, ◌<◌, ◌≤◌, ◌⊎◌, List, [], ◌∷◌, true, false, refl, ap, sym, subst, ◌∙◌, inl, inr, arith}
 use Rattle.std.specs.List.{AllByRecursion}
-use Rattle.std.proofs.lemmas.Bool.{cases_eq, true≢false}
-use Rattle.zo_layout.specs.Layout.{word_of, coffer_entry, coffer_state, coffer_next, path_bucket, bucket_of}
-use Rattle.tr_types.specs.declared.permission.Perm.{Perm}
+use Rattle.std.proofs.lemmas.Bool.{cases_eq}
+use Rattle.zo_layout.specs.Layout.{word_of, coffer_entry, coffer_state, path_bucket, bucket_of}
 use Rattle.tr_types.specs.Paths.{same_text}
 use Rattle.tr_types.specs.Journal.{laid_over}
 use Rattle.tr_types.specs.Kernel.{read_after}
-use Rattle.tr_types.specs.KernelTables.{Coffer, is_there, stands_in, path_in, coffer_in, path_stands_twice, entry_fails, bucket_fails, belongs}
+use Rattle.tr_types.specs.KernelTables.{is_there, stands_in, path_in, path_stands_twice, entry_fails}
 use Rattle.tr_types.specs.PathMap.{perm_pairs, state_pairs, root_pairs}
-use Rattle.kern_roots.specs.Changes.{is_used}
 use Rattle.kern_roots.specs.Laws.{PassesRoots, SameRoots, KeepsOwners, ChangesOne, PermLaw, StateLaw, RootLaw}
 use Rattle.kern_roots.proofs.ChangingSearch.{there_at}
 use Rattle.kern_roots.proofs.ChangingLayout.{first_word, word_in_part, same_entry_word, entry_not_bucket}
 use Rattle.kern_roots.proofs.ChangingReads.{laid_past, laid_one, laid_hit}
 use Rattle.kern_roots.proofs.ChangingChain.{next_in}
 use Rattle.kern_roots.proofs.ChangingEntries.{SameEntry, SamePath, same_state, same_path_in, same_coffer, coffer_is_there, twice_from, twice_at, entry_parts, passes_again}
-use Rattle.kern_roots.proofs.ChangingBuckets.{Belongs, belongs_parts, belongs_from}
+use Rattle.kern_roots.proofs.ChangingBuckets.{belongs_parts, belongs_from}
 use Rattle.kern_roots.proofs.ChangingMoves.{bucket_stays}
 
 -- the entries of all coffers but one have the same words, but for the next coffers in their chains

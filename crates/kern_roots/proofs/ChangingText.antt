@@ -1,10 +1,10 @@
 -- A path in the words of an entry: what is written there is read again.
-use Rattle.std.proofs.Common.{◌≡◌, ℕ, zero, suc, ◌+◌, ◌-◌, ◌*◌, ◌<◌, ◌≤◌, ◌⊎◌, List, [], ◌∷◌, ◌++◌, length, take, drop, replicate, get_or, map, min, Bool, true, false, not, ◌&&◌, ◌||◌, cond, ◌==◌, nat_le, nat_eq, codes, refl, ap, sym, subst, ◌∙◌, inl, inr, arith, eq-eqb, ne_eqb, eqb-true, le-leb, length-append, length-take, length-drop}
+use Rattle.std.proofs.Common.{◌≡◌, ℕ, zero, suc, ◌+◌, ◌*◌, ◌<◌, ◌≤◌, ◌⊎◌, List, [], ◌∷◌, ◌++◌, length, take, drop, replicate, get_or, Bool, true, cond, ◌==◌, nat_le, nat_eq, codes, refl, ap, sym, subst, ◌∙◌, inl, inr, arith, eq-eqb, ne_eqb, eqb-true, length-append, length-take, length-drop}
 use Rattle.std.specs.List.{range_with_len, flat_map, AllByRecursion, list_all}
-use Rattle.std.specs.Int.{w64, to_le_bytes, from_le_bytes}
-use Rattle.std.proofs.lemmas.Bool.{cases_lt, cases_Bool, cases_eq, and_parts, or_cases, true≢false, leb-true}
+use Rattle.std.specs.Int.{w64, to_le_bytes}
+use Rattle.std.proofs.lemmas.Bool.{cases_lt, cases_eq, and_parts, or_cases, true≢false, leb-true}
 use Rattle.std.proofs.lemmas.Nat.{le_bytes_8}
-use Rattle.std.proofs.lemmas.List.{take_all, take_at, take-take, take-append-le, drop-drop, take-append-drop, nil_from_length, get_or-take, get_or-drop, get_or_append_left, get_or-append_right, get_or_past, get_or-replicate}
+use Rattle.std.proofs.lemmas.List.{take_at, take-take, take-append-le, drop-drop, take-append-drop, nil_from_length}
 use Rattle.tr_types.specs.Tree.{parts_of, in_first}
 use Rattle.tr_types.specs.Paths.{same_text, is_name_byte, is_name_text, are_names_after, is_path_text}
 use Rattle.kern_roots.proofs.ChangingPairs.{text_word}

@@ -35,3 +35,5 @@ mod ChangingText
 mod ChangingAdded
 -- a coffer goes
 mod ChangingDrop
+-- an image with a committed pair
+mod ChangingCommitted

@@ -1,5 +1,5 @@
 -- What the changes of the coffer table leave. `at` reads before, `after` reads after them.
-use Rattle.std.specs.Prelude.{◌≡◌, ◌≢◌, ℕ, ◌<◌, ◌≤◌, List, length, Bool, true, false, Some}
+use Rattle.std.specs.Prelude.{◌≡◌, ◌≢◌, ℕ, ◌<◌, ◌≤◌, length, true, false, Some}
 use Rattle.zo_layout.specs.Layout.{word_of, coffer_entry, path_bucket}
 use Rattle.tr_types.specs.declared.permission.Perm.{Perm}
 use Rattle.tr_types.specs.Paths.{is_path_text}

@@ -144,7 +144,7 @@ root_passes pages at least new =
 abbrev owner_test : ℕ → (ℕ → ℕ) → Bool → ℕ → Bool
 owner_test pages at below owner = cond below (not (nat_eq owner 65535)) (not (nat_eq owner 0 || (is_id owner && stands_in pages at owner)))
 
-new_owners : (pages : ℕ) (at : ℕ → ℕ) → IsNewTables pages at → (page : ℕ) → page < pages → owner_fails pages at page ≡ false
+pub new_owners : (pages : ℕ) (at : ℕ → ℕ) → IsNewTables pages at → (page : ℕ) → page < pages → owner_fails pages at page ≡ false
 new_owners pages at new page lt = by (cases_lt page (kernel_pages pages)) (cases_lt page (kernel_pages pages + 2))
   where
     by : (page < kernel_pages pages) ⊎ (kernel_pages pages ≤ page) → (page < kernel_pages pages + 2) ⊎ (kernel_pages pages + 2 ≤ page) → owner_fails pages at page ≡ false
@@ -159,7 +159,7 @@ new_owners pages at new page lt = by (cases_lt page (kernel_pages pages)) (cases
         ap (λ (b : Bool). owner_test pages at b (owner_in pages at page)) (le-ltb page (kernel_pages pages) behind)
         ∙ ap (λ (o : ℕ). owner_test pages at false o) (new.owners page lt ∙ owner_none pages page further)
 
-new_entries : (pages : ℕ) (at : ℕ → ℕ) → 64 ≤ pages → IsNewTables pages at → (id : ℕ) → 1 ≤ id → id ≤ 256 → entry_fails pages at id ≡ false
+pub new_entries : (pages : ℕ) (at : ℕ → ℕ) → 64 ≤ pages → IsNewTables pages at → (id : ℕ) → 1 ≤ id → id ≤ 256 → entry_fails pages at id ≡ false
 new_entries pages at least new id low high = by (cases_eq id 1)
   where
     by : (id ≡ 1) ⊎ (id ≡ 1 → ⊥) → entry_fails pages at id ≡ false
@@ -212,7 +212,7 @@ new_chain pages at new bucket lt = by (cases_eq bucket 254)
 abbrev bucket_test : ℕ → (ℕ → ℕ) → ℕ → List ℕ → List ℕ → Bool
 bucket_test pages at bucket chain members = not (list_all (belongs pages at bucket) chain && none_twice chain && list_all (λ id. is_in_chain id chain) members)
 
-new_buckets : (pages : ℕ) (at : ℕ → ℕ) → IsNewTables pages at → (bucket : ℕ) → bucket < 256 → bucket_fails pages at bucket ≡ false
+pub new_buckets : (pages : ℕ) (at : ℕ → ℕ) → IsNewTables pages at → (bucket : ℕ) → bucket < 256 → bucket_fails pages at bucket ≡ false
 new_buckets pages at new bucket lt =
     ap (λ (chain : List ℕ). bucket_test pages at bucket chain (filter (belongs pages at bucket) all_ids)) (new_chain pages at new bucket lt)
     ∙ ap (λ (members : List ℕ). bucket_test pages at bucket (cond (nat_eq 254 bucket) (1 ∷ []) []) members) (new_members pages at new bucket)

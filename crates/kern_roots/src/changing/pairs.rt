@@ -52,6 +52,7 @@ fn place_of(pairs: &[(u64, u64)], addr: u64) -> usize
 {
     pairs.iter().take_while(|q| q.0 <= addr).count()
 }
+
 /// All words of a new coffer's entry. `next` is the next coffer of its bucket.
 pub fn entry_words(
     alloc: Global,
@@ -95,7 +96,7 @@ fn text_word(text: &[u8], i: usize) -> u64
     u64::from_le_bytes(eight_bytes(text, 8 * i))
 }
 
-// Eight bytes of a text from one on, with zeros behind its end.
+// Eight bytes of a text from a place on, with zeros behind its end.
 fn eight_bytes(text: &[u8], start: usize) -> [u8; 8]
     ensures { result ≡ take 8 (drop start text.now ++ replicate 8 0) }
 {

@@ -36,9 +36,30 @@ fn path(alloc: Global, bytes: &[u8]) -> Result<Path, AllocError>
     Ok(Path::new(Vec::from_slice(alloc, bytes)?))
 }
 
+// In its home word the bucket of `/` is empty, and a committed pair puts the root coffer there.
+fn words_with_a_pair(alloc: Global) -> Result<Words, NoMemory>
+    ensures { IfOk result (λ w. IsSoundKernel w) }
+{
+    let mut words = new_image(alloc, 64)?;
+    words.store(153584, 0)?;
+    words.store(4160, 153584)?;
+    words.store(4168, 1)?;
+    words.store(4096, 1)?;
+    Ok(words)
+}
+
 #[test]
 fn the_root_coffers_path_is_taken(rt: HostRuntime) -> Result<(), Fail> {
     let words = new_words(rt.alloc())?;
+    let root = path(rt.alloc(), b"/")?;
+    let refused = add(rt.alloc(), &words, &root, &STANDING);
+    assert_eq!(rt; refused.err(), Some(RootsFault::Taken));
+    Ok(())
+}
+
+#[test]
+fn a_path_that_stands_by_a_committed_pair_is_taken(rt: HostRuntime) -> Result<(), Fail> {
+    let words = words_with_a_pair(rt.alloc())?;
     let root = path(rt.alloc(), b"/")?;
     let refused = add(rt.alloc(), &words, &root, &STANDING);
     assert_eq!(rt; refused.err(), Some(RootsFault::Taken));

@@ -1,4 +1,4 @@
-use Rattle.std.proofs.Common.{◌≡◌, ◌∙◌, ℕ, List, ap, sym}
+use Rattle.std.proofs.Common.{◌∙◌, ℕ, List, ap, sym}
 use Rattle.tr_types.specs.PathMap as map
 use Rattle.tr_types.specs.KernelView.{pages_of}
 use Rattle.tr_types.specs.Journal.{kernel_word}

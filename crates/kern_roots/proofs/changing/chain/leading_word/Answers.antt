@@ -1,6 +1,6 @@
-use Rattle.std.proofs.Common.{◌≡◌, ◌∙◌, ◌<◌, ◌≤◌, ℕ, List, Bool, true, ap, sym, arith}
+use Rattle.std.proofs.Common.{◌≡◌, ◌∙◌, ℕ, List, ap, sym, arith}
 use Rattle.std.specs.List.{list_all}
-use Rattle.zo_layout.specs.Layout.{path_bucket, coffer_next, coffer_entry}
+use Rattle.zo_layout.specs.Layout.{coffer_next, coffer_entry}
 use Rattle.tr_types.specs.KernelView.{pages_of}
 use Rattle.tr_types.specs.Journal.{kernel_word}
 use Rattle.tr_types.specs.KernelTables.{is_id, chain_in}

@@ -1,5 +1,5 @@
-use Rattle.std.proofs.Common.{◌≡◌, ◌∙◌, ℕ, List, ◌++◌, ◌-◌, ap, sym, arith, take, drop, length, replicate, min}
-use Rattle.std.proofs.lemmas.List.{take_all, length-drop, take_rest}
+use Rattle.std.proofs.Common.{◌∙◌, ℕ, List, ◌++◌, ap, take, drop, length, replicate, min}
+use Rattle.std.proofs.lemmas.List.{take_rest}
 use Rattle.kern_roots.proofs.ChangingPairs.{padded}
 use Rattle.kern_roots.proofs.changing.pairs.eight_bytes.Goals as goal
 

@@ -1,4 +1,4 @@
-use Rattle.std.proofs.Common.{◌≡◌, ◌∙◌, ℕ, List, [], ◌∷◌, ◌++◌, ap, arith, length}
+use Rattle.std.proofs.Common.{◌∙◌, ℕ, List, ap, arith, length}
 use Rattle.kern_roots.proofs.ChangingPairs.{entry_words_more, entry_words_are, length_entry_words}
 use Rattle.kern_roots.proofs.changing.pairs.entry_words.Goals as goal
 

@@ -1,4 +1,4 @@
-use Rattle.std.proofs.Common.{◌≡◌, ◌∙◌, ℕ, List, [], ◌∷◌, ◌++◌, get_or, ap, refl}
+use Rattle.std.proofs.Common.{◌∙◌, ℕ, [], ◌∷◌, ◌++◌, get_or, ap}
 use Rattle.std.proofs.lemmas.List.{get_or_default}
 use Rattle.kern_roots.proofs.ChangingPairs.{from_address_more}
 use Rattle.kern_roots.proofs.changing.pairs.from_address.Goals as goal

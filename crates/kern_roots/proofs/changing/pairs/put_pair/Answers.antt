@@ -1,4 +1,4 @@
-use Rattle.std.proofs.Common.{◌≡◌, ◌∙◌, ℕ, List, insert, ap, nat_lt}
+use Rattle.std.proofs.Common.{◌∙◌, ℕ, List, insert, ap, nat_lt}
 use Rattle.std.specs.List.{position_or_len}
 use Rattle.kern_roots.proofs.ChangingPairs.{with_pair_is}
 use Rattle.kern_roots.proofs.changing.pairs.put_pair.Goals as goal

@@ -1,4 +1,4 @@
-use Rattle.std.proofs.Common.{◌≡◌, ◌∙◌, ℕ, Bool, true, false, not, ap, sym, arith}
+use Rattle.std.proofs.Common.{◌∙◌, not, ap, sym, arith}
 use Rattle.tr_types.specs.KernelView.{pages_of}
 use Rattle.tr_types.specs.Journal.{kernel_word}
 use Rattle.tr_types.specs.KernelTables.{stands_in}
