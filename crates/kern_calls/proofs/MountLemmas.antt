@@ -7,7 +7,7 @@ use Rattle.tr_types.specs.KernelRules.{IsSoundKernel}
 use Rattle.kern_journal.specs.Inner.{made_all}
 use Rattle.kern_journal.specs.Journal.{redo_events}
 use Rattle.kern_journal.specs.Law.{ViewLaw, IsFinished, IsDurable}
-use Rattle.kern_view.proofs.SoundLemmas.{IsRead, sound_after}
+use Rattle.kern_view.proofs.SoundLemmas.{sound_after}
 
 finished_by : (old new : List Word) → ViewLaw → HasPages (length old) → IsSoundKernel old → new ≡ made_all (redo_events old) old → IsFinished old new
 finished_by old new law size sound is =

@@ -1,4 +1,4 @@
-use Rattle.std.proofs.Common.{◌≡◌, ℕ, List, [], ◌∷◌, Bool, true, false, if◌then◌else◌, ◌==◌, refl, ap, ◌∙◌, nat_eq}
+use Rattle.std.proofs.Common.{◌≡◌, ℕ, List, [], ◌∷◌, if◌then◌else◌, ◌==◌, refl, ap, ◌∙◌, nat_eq}
 use Rattle.std.specs.List.{slice_split, onto_first}
 use Rattle.tr_types.specs.Tree.{in_first, parts_of}
 

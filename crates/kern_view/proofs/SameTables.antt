@@ -1,5 +1,5 @@
 -- Two readers that agree on the words of the tables break the same rules of the tables.
-use Rattle.std.proofs.Common.{◌≡◌, ℕ, ◌+◌, ◌-◌, ◌*◌, ◌%◌, ◌≤◌, List, [], take, filter, Bool, not, ◌&&◌, ◌||◌, ◌==◌, nat_le, nat_lt, if◌then◌else◌, codes, arith}
+use Rattle.std.proofs.Common.{◌≡◌, ℕ, ◌+◌, ◌%◌, ◌≤◌, [], take, filter, not, ◌&&◌, ◌||◌, ◌==◌, nat_le, nat_lt, if◌then◌else◌, codes, arith}
 use Rattle.std.specs.List.{range_with_len, flat_map, list_any, list_all}
 use Rattle.std.specs.Int.{w64, to_le_bytes}
 use Rattle.zo_layout.specs.Layout.{page_at, word_of, kernel_pages, owner_table, owner_word, coffer_entry, path_bucket, bucket_of}

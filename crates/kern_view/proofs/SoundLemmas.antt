@@ -1,15 +1,15 @@
-use Rattle.std.proofs.Common.{◌≡◌, ◌≢◌, ◌⊎◌, inl, inr, ℕ, ◌*◌, ◌/◌, ◌%◌, ◌<◌, ◌≤◌, List, [], ◌∷◌, Bool, true, false, length, map, refl, sym, ap, subst, ◌∙◌, arith, All, if◌then◌else◌, ◌==◌}
+use Rattle.std.proofs.Common.{◌≡◌, ◌≢◌, ◌⊎◌, inl, inr, ℕ, ◌/◌, ◌%◌, ◌<◌, ◌≤◌, List, [], ◌∷◌, Bool, false, length, map, refl, sym, ap, subst, ◌∙◌, arith, All, ◌==◌}
 use Rattle.std.specs.List.{range_with_len}
 use Rattle.std.proofs.lemmas.Bool.{cases_lt, cond-false, ne_eqb}
 use Rattle.std.proofs.lemmas.List.{get_or_past}
 use Rattle.std.proofs.lemmas.List.Elements.{All-head, All-tail, All-weaker}
-use Rattle.zo_layout.specs.Layout.{signature_word, version_word, count_word, committed_word, page_at, owner_table, pair_capacity}
+use Rattle.zo_layout.specs.Layout.{signature_word, version_word, count_word, page_at, owner_table}
 use Rattle.pm_words.specs.Word.{Word, settled}
-use Rattle.pm_words.specs.Memory.{word_at, IsAddress, HasPages}
+use Rattle.pm_words.specs.Memory.{word_at, HasPages}
 use Rattle.tr_types.specs.KernelView.{pages_of}
 use Rattle.tr_types.specs.Journal.{IsHome, IsReadable, committed, committed_count, kernel_word, laid_over, pair_at}
 use Rattle.tr_types.specs.KernelTables.{owner_fails, entry_fails, bucket_fails}
-use Rattle.tr_types.specs.KernelRules.{IsFinishable, IsSoundKernel}
+use Rattle.tr_types.specs.KernelRules.{IsSoundKernel}
 use Rattle.kern_view.proofs.SameTables.{ReadSame, same_owner_fails, same_entry_fails, same_bucket_fails}
 
 -- pairs for other addresses say nothing of this one

@@ -2,7 +2,6 @@ use Rattle.std.proofs.Common.{rules, tests, ap, ◌∙◌, nat_eq}
 use Rattle.std.proofs.lemmas.Iterator.Search.{all_from_yields_List}
 use Rattle.std.proofs.lemmas.Iterator.Splits.{YieldsList-from_slice_split}
 use Rattle.std.specs.List.{list_all}
-use Rattle.tr_types.specs.Tree.{parts_of}
 use Rattle.tr_types.specs.Paths as spec
 use Rattle.kern_view.proofs.PathLemmas.{split_is_parts}
 use Rattle.kern_view.proofs.paths.are_names.Goals as goal

@@ -1,6 +1,6 @@
-use Rattle.std.proofs.Common.{◌≡◌, ◌<◌, ℕ, length}
+use Rattle.std.proofs.Common.{◌<◌, ℕ}
 use Rattle.zo_layout.specs.Layout.{pair_address}
-use Rattle.pm_words.specs.Memory.{word_at, HasPages}
+use Rattle.pm_words.specs.Memory.{word_at}
 use Rattle.kern_view.specs.Parts.{IsTarget}
 use Rattle.kern_view.proofs.superblock.is_finishable.Given as goal
 

@@ -1,4 +1,4 @@
-use Rattle.std.proofs.Common.{◌≡◌, ℕ, Bool, not, ◌&&◌, ap, sym, ◌∙◌, slice_index_or, false}
+use Rattle.std.proofs.Common.{ℕ, Bool, not, ◌&&◌, ap, sym, ◌∙◌, slice_index_or, false}
 use Rattle.std.specs.List.{list_all, filter}
 use Rattle.tr_types.specs.KernelView.{pages_of}
 use Rattle.tr_types.specs.Journal.{kernel_word}

@@ -1,4 +1,4 @@
-use Rattle.std.proofs.Common.{◌≡◌, ℕ, ◌+◌, ◌-◌, List, length, Option, get_or, ap, ◌∙◌, arith}
+use Rattle.std.proofs.Common.{◌≡◌, ℕ, ◌-◌, List, length, Option, get_or, ap, ◌∙◌, arith}
 use Rattle.kern_view.specs.Reads.{paths_there}
 use Rattle.kern_view.proofs.ReadLemmas.{length_paths, path_at}
 use Rattle.kern_view.proofs.tables.Tables.path.Goals as goal
