@@ -120,8 +120,8 @@ pending_is_sound = record {
   pairs = record {
     readable = record {
       room = subst (λ (n : ℕ). n ≤ pair_capacity (pages_of (pending fresh))) (sym count) (let p = pages_now in omega arith);
-      homes = subst (λ (ps : List (ℕ × ℕ)). All (λ p. IsHome (pending fresh) p.0) ps) (sym pairs)
-          (All-cons (λ (p : ℕ × ℕ). IsHome (pending fresh) p.0) (153584, 1) [] home (All-nil (λ (p : ℕ × ℕ). IsHome (pending fresh) p.0)));
+      homes = subst (λ (ps : List (ℕ × ℕ)). All (λ p. IsHome (length (pending fresh)) p.0) ps) (sym pairs)
+          (All-cons (λ (p : ℕ × ℕ). IsHome (length (pending fresh)) p.0) (153584, 1) [] home (All-nil (λ (p : ℕ × ℕ). IsHome (length (pending fresh)) p.0)));
     };
     spares = subst (λ (ps : List (ℕ × ℕ)). All (λ p. (p.0 ≢ signature_word) × (p.0 ≢ version_word) × (p.0 ≢ count_word)) ps) (sym pairs)
         (All-cons (λ (p : ℕ × ℕ). (p.0 ≢ signature_word) × (p.0 ≢ version_word) × (p.0 ≢ count_word)) (153584, 1) []
@@ -144,7 +144,7 @@ pending_is_sound = record {
     present : (addr : ℕ) → addr % 8 ≡ 0 → addr < 4096 → (word_at (pending (all_durable (new_image 64))) addr).present ≡ (word_at (all_durable (new_image 64)) addr).present
     present addr whole low = ap (λ (w : Word). w.present) (kept addr whole (λ e. omega arith) (λ e. omega arith) (λ e. omega arith) (λ e. omega arith))
 
-    home : IsHome (pending (all_durable (new_image 64))) 153584
+    home : IsHome (length (pending (all_durable (new_image 64)))) 153584
     home = let s = same_size in record {
       inside = record { aligned = refl; inside = omega arith };
       outside = λ from. let p = pages_now in omega arith;

@@ -3,7 +3,6 @@ ghost use Rattle.std.specs.Prelude.{true, ◌≡◌, ◌≤◌, IfOk};
 ghost use Rattle.tr_types.specs.KernelView.{pages_of};
 ghost use Rattle.tr_types.specs.Journal.{kernel_word};
 ghost use Rattle.tr_types.specs.KernelRules.{IsSoundKernel};
-ghost use Rattle.tr_types.specs.Paths.{is_path_text};
 ghost use Rattle.tr_types.specs.PathMap as map;
 ghost use Rattle.kern_roots.specs.Entries.{has_coffer};
 ghost use Rattle.kern_roots.specs.Changes.{Adds, Changes, new_coffer};
@@ -34,8 +33,7 @@ pub fn add(
     path: &Path,
     root: &Root,
 ) -> Result<(u16, Pairs), RootsFault>
-    requires sound { IsSoundKernel words.now }
-    requires path { is_path_text path.now ≡ true }
+    requires { IsSoundKernel words.now }
     ensures { Adds (pages_of words.now) (kernel_word words.now) path.now root.now result }
 {
     if is_taken(words, path.as_bytes()) {

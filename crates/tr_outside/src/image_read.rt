@@ -3,6 +3,7 @@ ghost use Rattle.std.specs.Prelude.{◌≡◌, ◌≢◌, ◌≤◌, ◌/◌, �
 ghost use Rattle.tr_outside.specs.declared.image_fault.ImageFault.TheVariants as fault;
 ghost use Rattle.pm_words.specs.Memory.{HasPages};
 ghost use Rattle.tr_outside.specs.Causes.{Rose};
+ghost use Rattle.tr_outside.specs.Whole.{ConsumesAtMost};
 ghost use Rattle.tr_outside.specs.ImageRead.{IsLength, IsFaultOf, AnswersBytes, AnswersImage, image_words};
 
 use crate::image_fault::ImageFault;
@@ -25,6 +26,7 @@ const WORD_BYTES: usize = 8;
 pub fn read_image<S: Source>(alloc: Global, source: &mut S) -> Result<Image, ImageFault>
     ensures answer { AnswersImage (S.left source.old) (S.left source.new) result }
     ensures size { IfOk result (λ image. HasPages (length image)) }
+    ensures taken { ConsumesAtMost 67108865 (S.left source.old) (S.left source.new) }
     ensures fault { result ≡ Err fault.ReadFault → Rose (S.faults source.old) (S.faults source.new) }
     ensures later { S.faults source.old ≤ S.faults source.new }
 {
