@@ -3,7 +3,7 @@ use Rattle.std.proofs.Common.{◌≡◌, ◌≢◌, ℕ, ◌+◌, ◌-◌, ◌/�
 use Rattle.std.specs.List.{range_with_len}
 use Rattle.std.proofs.lemmas.Bool.{cases_lt}
 use Rattle.std.proofs.lemmas.List.{take-append-le}
-use Rattle.std.proofs.lemmas.List.Elements.{All-nil, All-cons, All-append, All-take, All-same, Contains-push}
+use Rattle.std.proofs.lemmas.List.Elements.{All-nil, All-cons, All-take, All-same, Contains-push}
 use Rattle.std.proofs.lemmas.List.FromFn.{length-map-range_with_len}
 use Rattle.std.proofs.lemmas.List.Sums.{fold-append}
 use Rattle.zo_layout.specs.Layout.{pair_address, pair_value, committed_word}
@@ -11,14 +11,13 @@ use Rattle.pm_words.specs.Word.{Word, crash_list}
 use Rattle.pm_words.specs.Memory.{word_at, IsAddress, HasPages}
 use Rattle.pm_words.specs.Crash.{MayLeave}
 use Rattle.kern_journal.specs.declared.inner.Inner.{Inner}
-use Rattle.kern_journal.specs.declared.inner.Inner.TheVariants.{Fence}
 use Rattle.kern_journal.specs.Inner.{made, made_all, phase}
 use Rattle.kern_journal.specs.Journal.{IsHome, IsReadable, committed, committed_count, pair_at, journal_words, count_pair, finish_events, finish_any, journal_events, redo_events, laid_over}
 use Rattle.kern_journal.specs.Law.{IsDurable, IsUnnamed, AreDone, IsReady, IsSettled, MayCome, IsAllOrNone, IsRedone, CrashLaw, CutLaw}
 use Rattle.kern_journal.proofs.EventLemmas.{count_inside, words_have}
 use Rattle.kern_journal.proofs.WordSteps.{length_run, Spares, Shortened, shortened_then, still_durable, Within, within_shortened}
 use Rattle.kern_journal.proofs.LaidLemmas.{laid_own, words_apart}
-use Rattle.kern_journal.proofs.PhaseLemmas.{take_past, phase_spares, kept_by, durable_kept, all_done, words_behind, home_from_words, count_from_words, home_from_count, words_from_count, count_done, count_either}
+use Rattle.kern_journal.proofs.PhaseLemmas.{take_past, kept_by, durable_kept, all_done, words_behind, home_from_words, count_from_words, home_from_count, words_from_count, count_done, count_either}
 use Rattle.kern_journal.proofs.FinishLemmas.{IsList, list_over, home_over, IsFinish, finish_is, nothing_is, committed_list, IsBegun, begun_is, ready_list, own_values}
 use Rattle.kern_journal.proofs.CutLemmas.{within_crash, crashed, durable_crashed, IsCommitted, IsStored, IsLeft, committed_is, none_committed, cut_committed}
 

@@ -1,5 +1,5 @@
 -- What finishing a list of pairs leaves, and what the whole list of events does.
-use Rattle.std.proofs.Common.{◌≡◌, ◌≢◌, ℕ, ◌+◌, ◌-◌, ◌*◌, ◌/◌, ◌%◌, ◌<◌, ◌≤◌, List, [], ◌∷◌, ◌++◌, length, get_or, map, nat_eq, refl, sym, ap, subst, ◌∙◌, inl, inr, ◌⊎◌, arith, All, Contains}
+use Rattle.std.proofs.Common.{◌≡◌, ◌≢◌, ℕ, ◌/◌, ◌<◌, ◌≤◌, List, [], ◌∷◌, ◌++◌, length, get_or, map, refl, sym, ap, subst, ◌∙◌, inl, inr, ◌⊎◌, arith, All}
 use Rattle.std.specs.List.{range_with_len}
 use Rattle.std.proofs.lemmas.Bool.{cases_eq}
 use Rattle.std.proofs.lemmas.List.Elements.{All-weaker, All-nil}
@@ -10,8 +10,8 @@ use Rattle.pm_words.specs.Word.{Word}
 use Rattle.pm_words.specs.Memory.{word_at, IsAddress, HasPages}
 use Rattle.kern_journal.specs.declared.inner.Inner.{Inner}
 use Rattle.kern_journal.specs.Inner.{made, made_all, phase}
-use Rattle.kern_journal.specs.Journal.{IsHome, IsReadable, committed, committed_count, pair_at, kernel_word, laid_over, journal_words, count_pair, finish_events, finish_any, journal_events, redo_events}
-use Rattle.kern_journal.specs.Law.{IsDurable, Keeps, IsUnnamed, AreDone, IsReady, IsApplied, IsFinished, ApplyLaw, ViewLaw, IdleLaw}
+use Rattle.kern_journal.specs.Journal.{IsHome, IsReadable, committed, committed_count, pair_at, laid_over, journal_words, count_pair, finish_events, finish_any, redo_events}
+use Rattle.kern_journal.specs.Law.{IsDurable, IsUnnamed, AreDone, IsReady, IsApplied, IsFinished, ApplyLaw, ViewLaw, IdleLaw}
 use Rattle.kern_journal.proofs.EventLemmas.{count_inside}
 use Rattle.kern_journal.proofs.WordSteps.{length_run, Shortened, same_word, shortened_then, within_shortened}
 use Rattle.kern_journal.proofs.LaidLemmas.{IsNamed, named_cases, laid_unnamed, laid_own}

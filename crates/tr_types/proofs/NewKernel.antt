@@ -82,7 +82,7 @@ root_path : (pages : ℕ) (at : ℕ → ℕ) → IsNewTables pages at → path_i
 root_path pages at new =
     ap (λ (n : ℕ). cond (nat_le n 440) (take n (path_bytes pages at 1)) []) (first_entry pages at new (coffer_path_length (coffer_entry pages 1)) 7 (omega arith) (omega arith))
     ∙ ap (λ (w : ℕ). take 1 (to_le_bytes w64 w ++ flat_map (λ i. to_le_bytes w64 (at (coffer_path_word (coffer_entry pages 1) i))) (range_with_len 1 54)))
-        (first_entry pages at new (coffer_path_word (coffer_entry pages 1) 0) 9 (omega arith) (omega arith))
+    (first_entry pages at new (coffer_path_word (coffer_entry pages 1) 0) 9 (omega arith) (omega arith))
 
 root_path_passes : (pages : ℕ) (at : ℕ → ℕ) → IsNewTables pages at → path_fails pages at 1 ≡ false
 root_path_passes pages at new =
@@ -114,7 +114,7 @@ root_is pages at new =
 once : (pages : ℕ) (at : ℕ → ℕ) → IsNewTables pages at → path_stands_twice pages at 1 ≡ false
 once pages at new =
     ap (λ (ids : List ℕ). list_any (λ other. not (nat_eq other 1) && same_text (path_in pages at other) (path_in pages at 1)) ids)
-        (among_ids (stands_in pages at) (none_stands pages at new) ∙ ap (λ (b : Bool). cond b (1 ∷ []) []) (root_stands pages at new))
+    (among_ids (stands_in pages at) (none_stands pages at new) ∙ ap (λ (b : Bool). cond b (1 ∷ []) []) (root_stands pages at new))
 
 or_none : (x y : Bool) → x ≡ false → y ≡ false → (x || y) ≡ false
 or_none x y first second = ap (λ (b : Bool). b || y) first ∙ second
@@ -123,21 +123,21 @@ root_pages_pass : (pages : ℕ) (at : ℕ → ℕ) → 64 ≤ pages → IsNewTab
 unfolding root_coffer
 root_pages_pass pages at least new =
     or_none (not (owns pages at 1 (root_control pages) && owns pages at 1 (root_page pages))) (nat_eq (root_control pages) (root_page pages))
-        (ap (λ (b : Bool). not (b && owns pages at 1 (root_page pages))) (root_owns pages at new (root_control pages) (omega arith) (omega arith) (omega arith))
-            ∙ ap not (root_owns pages at new (root_page pages) (omega arith) (omega arith) (omega arith)))
-        (ne_eqb (root_control pages) (root_page pages) (λ e. omega arith))
+    (ap (λ (b : Bool). not (b && owns pages at 1 (root_page pages))) (root_owns pages at new (root_control pages) (omega arith) (omega arith) (omega arith))
+    ∙ ap not (root_owns pages at new (root_page pages) (omega arith) (omega arith) (omega arith)))
+    (ne_eqb (root_control pages) (root_page pages) (λ e. omega arith))
 
 root_passes : (pages : ℕ) (at : ℕ → ℕ) → 64 ≤ pages → IsNewTables pages at → coffer_fails pages at (coffer_in pages at 1) ≡ false
 unfolding root_coffer
 root_passes pages at least new =
     ap (λ (c : Coffer). coffer_fails pages at c) (root_is pages at new)
     ∙ or_none (path_fails pages at 1 || false || pages_fail pages at (root_coffer pages) || path_stands_twice pages at 1) false
-        (or_none (path_fails pages at 1 || false || pages_fail pages at (root_coffer pages)) (path_stands_twice pages at 1)
-            (or_none (path_fails pages at 1 || false) (pages_fail pages at (root_coffer pages))
-                (or_none (path_fails pages at 1) false (root_path_passes pages at new) refl)
-                (root_pages_pass pages at least new))
-            (once pages at new))
-        refl
+    (or_none (path_fails pages at 1 || false || pages_fail pages at (root_coffer pages)) (path_stands_twice pages at 1)
+    (or_none (path_fails pages at 1 || false) (pages_fail pages at (root_coffer pages))
+    (or_none (path_fails pages at 1) false (root_path_passes pages at new) refl)
+    (root_pages_pass pages at least new))
+    (once pages at new))
+    refl
 
 -- The three rules.
 
@@ -176,8 +176,8 @@ new_entries pages at least new id low high = by (cases_eq id 1)
 new_members : (pages : ℕ) (at : ℕ → ℕ) → IsNewTables pages at → (bucket : ℕ) → filter (belongs pages at bucket) all_ids ≡ cond (nat_eq 254 bucket) (1 ∷ []) []
 new_members pages at new bucket =
     among_ids (belongs pages at bucket) (λ i low high.
-        ap (λ (b : Bool). is_id i && b && nat_eq (bucket_of (path_in pages at i)) bucket) (none_stands pages at new i low high)
-        ∙ never (is_id i) (nat_eq (bucket_of (path_in pages at i)) bucket))
+    ap (λ (b : Bool). is_id i && b && nat_eq (bucket_of (path_in pages at i)) bucket) (none_stands pages at new i low high)
+    ∙ never (is_id i) (nat_eq (bucket_of (path_in pages at i)) bucket))
     ∙ ap (λ (b : Bool). cond (b && nat_eq (bucket_of (path_in pages at 1)) bucket) (1 ∷ []) []) (root_stands pages at new)
     ∙ ap (λ (path : List ℕ). cond (nat_eq (bucket_of path) bucket) (1 ∷ []) []) (root_path pages at new)
   where
@@ -249,7 +249,7 @@ pub new_committed : (pages : ℕ) → 64 ≤ pages → pages ≤ 16384 → commi
 new_committed pages least most =
     present_new pages 1 0 committed_word least most (omega arith) (omega arith) refl
     ∙ ap (λ (b : Bool). in_page pages 0 false b (nat_lt 1 (coffer_table pages)) (nat_eq 1 (coffer_table pages)) (nat_eq 1 (bucket_page pages)) (owner_table_word pages (512 * (1 - owner_table pages) + 0)))
-        (lt-ltb 1 (owner_table pages) (omega arith))
+    (lt-ltb 1 (owner_table pages) (omega arith))
 
 none_committed : (pages : ℕ) → 64 ≤ pages → pages ≤ 16384 → committed (all_durable (new_image pages)) ≡ []
 none_committed pages least most = ap (λ (n : ℕ). map (pair_at (all_durable (new_image pages))) (range_with_len 0 n)) (new_committed pages least most)
@@ -279,11 +279,11 @@ new_tables pages least most = record {
     behind_owners : (page i : ℕ) → coffer_table pages ≤ page → word_in_page pages page i ≡ cond (nat_eq page (coffer_table pages)) (coffer_word pages i) (cond (nat_eq page (bucket_page pages)) (bucket_word i) 0)
     behind_owners page i le =
         ap (λ (b : Bool). in_page pages i b (nat_lt page (owner_table pages)) (nat_lt page (coffer_table pages)) (nat_eq page (coffer_table pages)) (nat_eq page (bucket_page pages)) (owner_table_word pages (512 * (page - owner_table pages) + i)))
-            (ne_eqb page 0 (λ e. omega arith))
+        (ne_eqb page 0 (λ e. omega arith))
         ∙ ap (λ (b : Bool). in_page pages i false b (nat_lt page (coffer_table pages)) (nat_eq page (coffer_table pages)) (nat_eq page (bucket_page pages)) (owner_table_word pages (512 * (page - owner_table pages) + i)))
-            (le-ltb page (owner_table pages) (omega arith))
+        (le-ltb page (owner_table pages) (omega arith))
         ∙ ap (λ (b : Bool). in_page pages i false false b (nat_eq page (coffer_table pages)) (nat_eq page (bucket_page pages)) (owner_table_word pages (512 * (page - owner_table pages) + i)))
-            (le-ltb page (coffer_table pages) le)
+        (le-ltb page (coffer_table pages) le)
 
     entry_word : (i : ℕ) → i < 16384 → (i < 512) ⊎ (512 ≤ i) → word_in_page pages (coffer_table pages + i / 512) (i % 512) ≡ coffer_word pages i
     entry_word i lt (inl first) =
