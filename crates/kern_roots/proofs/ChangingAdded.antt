@@ -55,7 +55,7 @@ is_free pages at id e =
 abbrev new_words : ℕ → (ℕ → ℕ) → Coffer → List ℕ
 new_words pages at c = entry_words c (at (path_bucket pages (bucket_of c.path)))
 
-length_words : (c : Coffer) (next : ℕ) → length (entry_words c next) ≡ 64
+pub length_words : (c : Coffer) (next : ℕ) → length (entry_words c next) ≡ 64
 length_words c next = omega (arith, length-map-range_with_len (text_word c.path) 0 55)
 
 -- the entry's words and the bucket's, one after another

@@ -39,7 +39,7 @@ pub data Leads (pages : ℕ) (at : ℕ → ℕ) (id : ℕ) : Type 0 where
   ByBucket : leading_word pages at id ≡ path_bucket pages (own_of pages at id) → Leads pages at id
   ByCoffer : (x : ℕ) → (x ≡ id → ⊥) → belongs pages at (own_of pages at id) x ≡ true → leading_word pages at id ≡ coffer_next (coffer_entry pages x) → Leads pages at id
 
-leads : (pages : ℕ) (at : ℕ → ℕ) (id : ℕ) → Holds pages at (own_of pages at id) (chain_in pages at (own_of pages at id)) → Leads pages at id
+pub leads : (pages : ℕ) (at : ℕ → ℕ) (id : ℕ) → Holds pages at (own_of pages at id) (chain_in pages at (own_of pages at id)) → Leads pages at id
 leads pages at id h = by (leads_is pages (path_bucket pages (own_of pages at id)) (chain_in pages at (own_of pages at id)) id)
   where
     by : (leading_word pages at id ≡ path_bucket pages (own_of pages at id))
@@ -180,7 +180,7 @@ with_hit start n (w ∷ ws) p addr d e apart = by (cases_Bool (nat_lt p.0 (word_
         ∙ laid_past (word_of start n) w (with_pair p (placed start (n + 1) ws)) addr d (apart n (omega arith) (omega arith))
         ∙ more
 
-length_no_words : length no_words ≡ 64
+pub length_no_words : length no_words ≡ 64
 unfolding no_words
 length_no_words = length-replicate {A = ℕ} 64 0
 
@@ -190,7 +190,7 @@ no_word_at k h = get_or-replicate {A = ℕ} 64 k 0 0 h
 
 -- What is read once a coffer is dropped.
 
-leading_apart : (pages : ℕ) (at : ℕ → ℕ) (id : ℕ) → 1 ≤ id → id ≤ 256 → Leads pages at id → (i : ℕ) → i < 64 → word_of (coffer_entry pages id) i ≡ leading_word pages at id → ⊥
+pub leading_apart : (pages : ℕ) (at : ℕ → ℕ) (id : ℕ) → 1 ≤ id → id ≤ 256 → Leads pages at id → (i : ℕ) → i < 64 → word_of (coffer_entry pages id) i ≡ leading_word pages at id → ⊥
 leading_apart pages at id l m (ByBucket e) i h q = entry_not_bucket pages id i (own_of pages at id) l m h (q ∙ e)
 leading_apart pages at id l m (ByCoffer x ne b e) i h q =
     let r = belongs_parts pages at (own_of pages at id) x b in

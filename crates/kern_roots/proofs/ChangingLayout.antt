@@ -28,3 +28,10 @@ first_word start = omega arith
 
 pub word_in_part : (start i j : ℕ) → word_of (word_of start i) j ≡ word_of start (i + j)
 word_in_part start i j = omega arith
+
+-- the buckets stand behind all entries
+behind_place : (t id bucket : ℕ) → 1 ≤ id → id ≤ 256 → 4096 * t + 8 * (64 * (id - 1)) + 8 * 64 ≤ 4096 * (t + 32) + 8 * bucket
+behind_place t id bucket l m = omega arith
+
+pub bucket_behind : (pages id bucket : ℕ) → 1 ≤ id → id ≤ 256 → word_of (coffer_entry pages id) 64 ≤ path_bucket pages bucket
+bucket_behind pages id bucket l m = behind_place (coffer_table pages) id bucket l m

@@ -37,3 +37,5 @@ mod ChangingAdded
 mod ChangingDrop
 -- an image with a committed pair
 mod ChangingCommitted
+-- the addresses of a change rise
+mod ChangingOrder

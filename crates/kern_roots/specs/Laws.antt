@@ -1,5 +1,6 @@
 -- What the changes of the coffer table leave. `at` reads before, `after` reads after them.
-use Rattle.std.specs.Prelude.{◌≡◌, ◌≢◌, ℕ, ◌<◌, ◌≤◌, length, true, false, Some}
+use Rattle.std.specs.Prelude.{◌≡◌, ◌≢◌, ℕ, ◌<◌, ◌≤◌, List, length, true, false, Some}
+use Rattle.std.specs.List.{AllPairs}
 use Rattle.zo_layout.specs.Layout.{word_of, coffer_entry, path_bucket}
 use Rattle.tr_types.specs.declared.permission.Perm.{Perm}
 use Rattle.tr_types.specs.Paths.{is_path_text}
@@ -81,3 +82,16 @@ RootLaw =
     (pages : ℕ) (at after : ℕ → ℕ) (id root : ℕ) → PassesRoots pages at → is_used pages at id ≡ true
     → SameRoots pages (read_after (root_pairs pages id root) at) after → KeepsOwners pages id at after
     → (coffer_in pages after id ≡ with_root root (coffer_in pages at id)) × ChangesOne pages id at after
+
+-- each pair has a greater address than those before it
+abbrev pub AreInOrder : List (ℕ × ℕ) → Type 0
+AreInOrder pairs = AllPairs {X = ℕ × ℕ} (λ p q. p.0 < q.0) pairs
+
+-- The pairs of a change stand in order of address. (A state and a root page are one pair each.)
+pub record AreAllInOrder (pages : ℕ) (at : ℕ → ℕ) : Type 0 where
+  pub added : (c : Coffer) → 1 ≤ c.id → c.id ≤ 256 → AreInOrder (added_pairs pages at c)
+  pub dropped : (id : ℕ) → is_used pages at id ≡ true → AreInOrder (dropped_pairs pages at id)
+  pub perm : (id : ℕ) (perm : Perm) → AreInOrder (perm_pairs pages id perm)
+
+abbrev pub OrderLaw : Type 0
+OrderLaw = (pages : ℕ) (at : ℕ → ℕ) → PassesRoots pages at → AreAllInOrder pages at
