@@ -36,3 +36,7 @@ pub mod KernelRules
 pub mod PathMap
 -- what the kernel reads
 pub mod Kernel
+-- the single steps of the kernel
+pub mod Inner
+-- the kernel's calls
+pub mod KernelCalls
