@@ -1,6 +1,6 @@
 -- The rules of the kernel's pages: the superblock, the journal, the tables. They are tried in three stages, and what counts
 -- is the least place of the first stage in which one fails.
-use Rattle.std.specs.Prelude.{◌≡◌, ◌≢◌, ◌⊎◌, ℕ, ◌<◌, ◌≤◌, List, true, All}
+use Rattle.std.specs.Prelude.{◌≡◌, ◌≢◌, ◌⊎◌, ℕ, ◌<◌, ◌≤◌, List, true, false, All}
 use Rattle.zo_layout.specs.Layout.{signature_word, version_word, count_word, committed_word, owner_word, coffer_entry, path_bucket}
 use Rattle.pm_words.specs.Word.{Word}
 use Rattle.pm_words.specs.Memory.{word_at}
@@ -66,8 +66,12 @@ IsFirstFault words place =
     ⊎ ((Passes words Superblock × FailsFirst words Pairs place)
     ⊎ (Passes words Superblock × Passes words Pairs × FailsFirst words Tables place))
 
--- no rule of the kernel's pages fails
+-- No rule of the kernel's pages fails: each holds at each of its places.
 pub record IsSoundKernel (words : List Word) : Type 0 where
-  pub superblock : Passes words Superblock
-  pub pairs : Passes words Pairs
-  pub tables : Passes words Tables
+  pub signature : (word_at words signature_word).present ≡ treasury
+  pub version : (word_at words version_word).present ≡ 1
+  pub count : (word_at words count_word).present ≡ pages_of words
+  pub pairs : IsFinishable words
+  pub owners : (page : ℕ) → page < pages_of words → owner_fails (pages_of words) (kernel_word words) page ≡ false
+  pub entries : (id : ℕ) → 1 ≤ id → id ≤ 256 → entry_fails (pages_of words) (kernel_word words) id ≡ false
+  pub buckets : (bucket : ℕ) → bucket < 256 → bucket_fails (pages_of words) (kernel_word words) bucket ≡ false

@@ -52,9 +52,14 @@ stands_in pages at id = is_there (at (coffer_state (coffer_entry pages id)))
 abbrev pub path_bytes : ℕ → (ℕ → ℕ) → ℕ → List ℕ
 path_bytes pages at id = flat_map (λ i. to_le_bytes w64 (at (coffer_path_word (coffer_entry pages id) i))) (range_with_len 0 55)
 
--- the path is the first `length` of them; what stands behind them tells nothing
+-- the length of the path in bytes, as the entry says it
+abbrev pub path_length : ℕ → (ℕ → ℕ) → ℕ → ℕ
+path_length pages at id = at (coffer_path_length (coffer_entry pages id))
+
+-- The path is the first `length` of them; what stands behind them tells nothing. An entry that says more than 440 has no path, so that it
+-- is like no other's.
 abbrev pub path_in : ℕ → (ℕ → ℕ) → ℕ → List ℕ
-path_in pages at id = take (at (coffer_path_length (coffer_entry pages id))) (path_bytes pages at id)
+path_in pages at id = if nat_le (path_length pages at id) 440 then take (path_length pages at id) (path_bytes pages at id) else []
 
 abbrev pub perm_in : ℕ → (ℕ → ℕ) → ℕ → Perm
 perm_in pages at id = record {
@@ -112,7 +117,7 @@ is_mode mode = bit_and mode 438 == mode
 -- the entry's path is a path, of at most 440 bytes
 abbrev pub path_fails : ℕ → (ℕ → ℕ) → ℕ → Bool
 path_fails pages at id =
-    not (nat_le (at (coffer_path_length (coffer_entry pages id))) 440 && is_path_text (path_in pages at id))
+    not (nat_le (path_length pages at id) 440 && is_path_text (path_in pages at id))
 
 -- the coffer owns the page
 abbrev pub owns : ℕ → (ℕ → ℕ) → ℕ → ℕ → Bool
