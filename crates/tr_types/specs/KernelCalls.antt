@@ -1,6 +1,6 @@
 -- The kernel's calls, one row for each: what refuses it, in order, and what it does. A row is made from the callers, the
 -- memory, who holds which coffer, the calling thread and the tick. No committed pair stands when a call comes.
-use Rattle.std.specs.Prelude.{◌≡◌, ℕ, ◌+◌, ◌-◌, ◌*◌, ◌/◌, ◌%◌, ◌^◌, ◌<◌, ◌≤◌, List, [], ◌∷◌, ◌++◌, length, map, take, filter, fold, Bool, true, false, not, Option, Some, None, is_some, if◌then◌else◌, ◌==◌, ◌&&◌, ◌||◌, nat_lt, nat_le, slice_index_or, All, codes}
+use Rattle.std.specs.Prelude.{◌≡◌, ◌⊎◌, ℕ, ◌+◌, ◌-◌, ◌*◌, ◌/◌, ◌%◌, ◌^◌, ◌<◌, ◌≤◌, List, [], ◌∷◌, ◌++◌, length, map, take, filter, fold, Bool, true, false, not, Option, Some, None, is_some, if◌then◌else◌, ◌==◌, ◌&&◌, ◌||◌, nat_lt, nat_le, slice_index_or, All, codes}
 use Rattle.std.specs.List.{range_with_len, list_any, flat_map, count_by, find}
 use Rattle.zo_layout.specs.Layout.{owner_word, page_at, word_of, page_kind}
 use Rattle.pm_words.specs.Word.{Word}
@@ -10,7 +10,7 @@ use Rattle.tr_types.specs.KernelView.{pages_of}
 use Rattle.tr_types.specs.Paths.{same_text, is_path_text, directory_path}
 use Rattle.tr_types.specs.Journal.{kernel_word}
 use Rattle.tr_types.specs.Inner.{made_all, journal_events}
-use Rattle.tr_types.specs.KernelTables.{Coffer}
+use Rattle.tr_types.specs.KernelTables.{Coffer, is_mode}
 use Rattle.tr_types.specs.Kernel.{kernel_owner, coffer_pages, spare_pages, coffers}
 use Rattle.tr_types.specs.PathMap.{coffer_of_path, coffer_above, children_of, coffer_with, coffer_at_path, is_coffer, free_id, added_pairs, dropped_pairs, perm_pairs, state_pairs}
 use Rattle.tr_types.specs.Rights.{process_of, has_bit, key_for, those_against, is_row_of, with_row, without_row}
@@ -546,3 +546,26 @@ words_after callers words holders thread now kcall = made_all (inner_of callers 
 abbrev pub holders_after : Callers → List Word → List Holder → ℕ → ℕ → Kcall → List Holder
 holders_after callers words holders thread now kcall =
     unless_refused (row_of callers words holders thread now kcall) holders (row_of callers words holders thread now kcall).holders
+
+-- A call that a script can write: its paths are paths, of any length; its right is one; its mode is one; its kind is that of a directory
+-- or a file; it lists pages where it lists any.
+
+abbrev pub IsPathText : List ℕ → Type 0
+IsPathText path = is_path_text path ≡ true
+
+abbrev pub IsOneRight : Right → Type 0
+IsOneRight right = (right.0 ≡ 1) ⊎ ((right.0 ≡ 2) ⊎ (right.0 ≡ 4))
+
+abbrev pub IsPathOrNone : Option (List ℕ) → Type 0
+IsPathOrNone None = Unit {0}
+IsPathOrNone (Some path) = IsPathText path
+
+abbrev pub IsCall : Kcall → Type 0
+IsCall (call.Find path also) = IsPathText path × IsPathOrNone also
+IsCall (call.Map path right exclusive) = IsPathText path × IsOneRight right
+IsCall (call.New parent path kind mode link guard) = IsPathText path × (kind ≤ 1) × (is_mode mode ≡ true)
+IsCall (call.Shrink id pages guard) = 0 < length pages
+IsCall (call.Split id path pages mode link guard) = IsPathText path × (0 < length pages) × (is_mode mode ≡ true)
+IsCall (call.Merge child parent pages link guard) = 0 < length pages
+IsCall (call.Mode id mode) = is_mode mode ≡ true
+IsCall kcall = Unit {0}

@@ -40,3 +40,5 @@ pub mod Kernel
 pub mod Inner
 -- the kernel's calls
 pub mod KernelCalls
+-- the same, of a root coffer that is the only one
+pub mod RootCoffer

@@ -1,0 +1,84 @@
+-- How the kernel's calls are answered where the root coffer, whose number is 1, is the only one: what the rows say of it.
+use Rattle.std.specs.Prelude.{◌≡◌, ◌⊎◌, ℕ, ◌<◌, ◌≤◌, List, [], ◌∷◌, length, take, map, filter, Bool, true, false, Option, Some, None, ◌==◌, ◌&&◌, ◌||◌}
+use Rattle.std.specs.List.{range_with_len}
+use Rattle.pm_words.specs.Word.{Word}
+use Rattle.zo_layout.specs.Layout.{root_control, root_page}
+use Rattle.tr_types.specs.Commands.{IsPath}
+use Rattle.tr_types.specs.KernelView.{pages_of, owner_of, free_pages}
+use Rattle.tr_types.specs.Rights.{key_for, those_against, holds_itself, allows_writing, is_row_of, IsLeastOf}
+use Rattle.tr_types.specs.Machine.{Bus}
+use Rattle.tr_types.specs.declared.kernel_call.Kcall.{Kcall}
+use Rattle.tr_types.specs.declared.kernel_call.Kcall.TheVariants.{Find, Map, Unmap, Enlarge}
+use Rattle.tr_types.specs.declared.kernel_call.KernAnswer.{KernAnswer}
+use Rattle.tr_types.specs.declared.kernel_call.KernAnswer.TheVariants.{Done as IsDone, Found, Mapped as IsMapped, Pages, NotHeld, InUse, NoKey, NoPages, BadCount}
+use Rattle.tr_types.specs.declared.kernel_call.FoundAt.{FoundAt}
+use Rattle.tr_types.specs.declared.kernel_call.Holder.{Holder}
+use Rattle.tr_types.specs.declared.kernel_call.Mapped.{Mapped}
+use Rattle.tr_types.specs.declared.permission.Perm.{Perm}
+use Rattle.tr_types.specs.declared.permission.Right.{Right}
+
+
+abbrev pub root_perm : Perm
+root_perm = record { uid = 0; gid = 0; mode = 438 }
+
+abbrev pub found_at : List ℕ → FoundAt
+found_at path = record { id = 1; exact = (length path == 1); path_len = 1; perm = root_perm }
+
+abbrev pub pages_held : List Word → ℕ → ℕ
+pages_held words coffer = length (filter (λ page. owner_of words page == coffer) (range_with_len 0 (pages_of words)))
+
+-- the root coffer as a thread has it mapped under a key
+abbrev pub root_mapped : List Word → ℕ → Mapped
+root_mapped words key = record {
+  id = 1;
+  key = key;
+  control = root_control (pages_of words);
+  root = root_page (pages_of words);
+  pages = pages_held words 1;
+  path_len = 1;
+  perm = root_perm;
+}
+
+-- A map is refused where others stand against it, then where the process has no key left. (The root coffer's
+-- permission gives everyone the rights to read and to write; a map for the owner's rights isn't built.)
+abbrev pub MapAnswers : Bus → ℕ → Bool → KernAnswer → Type 0
+MapAnswers bus thread exclusive (IsMapped m) =
+    (those_against thread 1 exclusive bus.holders ≡ []) × (key_for bus.threads bus.holders thread 1 ≡ Some m.key) × (m ≡ root_mapped bus.words m.key)
+MapAnswers bus thread exclusive (InUse other id path_len) = IsLeastOf (those_against thread 1 exclusive bus.holders) other × (id ≡ 1) × (path_len ≡ 1)
+MapAnswers bus thread exclusive (NoKey id path_len) =
+    (those_against thread 1 exclusive bus.holders ≡ []) × (key_for bus.threads bus.holders thread 1 ≡ None) × (id ≡ 1) × (path_len ≡ 1)
+MapAnswers bus thread exclusive answer = ⊥
+
+abbrev pub UnmapAnswers : Bus → ℕ → ℕ → KernAnswer → Type 0
+UnmapAnswers bus thread id IsDone = holds_itself thread id bus.holders ≡ true
+UnmapAnswers bus thread id NotHeld = holds_itself thread id bus.holders ≡ false
+UnmapAnswers bus thread id answer = ⊥
+
+-- the thread itself holds the coffer for writing
+abbrev pub holds_to_write : ℕ → ℕ → List Holder → Bool
+holds_to_write thread coffer [] = false
+holds_to_write thread coffer (h ∷ holders) = (is_row_of thread coffer h && allows_writing h.right) || holds_to_write thread coffer holders
+
+-- a coffer is enlarged by the least free pages, and is refused exactly where fewer are free than are asked for
+abbrev pub IsEnlarged : List Word → ℕ → KernAnswer → Type 0
+IsEnlarged words count (Pages pages) = (count ≤ length (free_pages words)) × (pages ≡ take count (free_pages words))
+IsEnlarged words count (NoPages asked free) = (free < count) × (asked ≡ count) × (free ≡ length (free_pages words))
+IsEnlarged words count answer = ⊥
+
+-- the count of pages must be one of 1 to 1,024
+abbrev pub EnlargeAnswers : Bus → ℕ → ℕ → ℕ → KernAnswer → Type 0
+EnlargeAnswers bus thread id count NotHeld = holds_to_write thread id bus.holders ≡ false
+EnlargeAnswers bus thread id count BadCount = (holds_to_write thread id bus.holders ≡ true) × ((count ≡ 0) ⊎ (1024 < count))
+EnlargeAnswers bus thread id count answer = (holds_to_write thread id bus.holders ≡ true) × (1 ≤ count) × (count ≤ 1024) × IsEnlarged bus.words count answer
+
+-- a right that the root coffer gives to everyone
+abbrev pub IsGiven : Right → Type 0
+IsGiven right = (right.0 ≡ 1) ⊎ (right.0 ≡ 2)
+
+-- the kernel answers a call so
+abbrev pub RootAnswers : Bus → ℕ → Kcall → KernAnswer → Type 0
+RootAnswers bus thread (Find path None) answer = IsPath path × (answer ≡ Found (found_at path) None)
+RootAnswers bus thread (Map path right exclusive) answer = IsPath path × IsGiven right × MapAnswers bus thread exclusive answer
+RootAnswers bus thread (Unmap id) answer = UnmapAnswers bus thread id answer
+RootAnswers bus thread (Enlarge id count) answer = EnlargeAnswers bus thread id count answer
+RootAnswers bus thread call answer = ⊥
