@@ -6,3 +6,4 @@ pub mod FreePages
 pub mod MachineLemmas
 -- laws of the registers before any thread has opened a key
 pub mod Registers
+pub mod StepLemmas
