@@ -51,9 +51,9 @@ pub record Callers : Type 0 where
   pub processes : List (ℕ × Cred)
   pub threads : List (ℕ × ℕ)
 
--- what a thread is that no process has started: no one. (The recovery calls as such a thread.)
+-- what a thread is that no process has started: no one, with a uid that no user has. (The recovery calls as such a thread.)
 abbrev pub no_one : Cred
-no_one = record { uid = 65534; gid = 65534 }
+no_one = record { uid = 4294967296; gid = 4294967296 }
 
 abbrev pub cred_in : List (ℕ × Cred) → Option ℕ → Cred
 cred_in processes None = no_one
@@ -131,7 +131,7 @@ abbrev pub is_bad_page : List Word → ℕ → List ℕ → List ℕ → ℕ →
 is_bad_page words id kept pages page =
     not (owns_page words id page) || list_any (λ p. p == page) kept || is_listed_twice pages page
 
--- the first page that isn't the coffer's: of the addresses, and then of the listed pages
+-- the page of the first address that is no word of the coffer's
 abbrev pub bad_address_page : List Word → ℕ → List ℕ → Option ℕ
 bad_address_page words id [] = None
 bad_address_page words id (addr ∷ addrs) = if is_word_of words id addr then bad_address_page words id addrs else Some (addr / 4096)
@@ -141,7 +141,7 @@ not_yours (Some page) other = Some (answer.NotYours page)
 not_yours None (Some page) = Some (answer.NotYours page)
 not_yours None None = None
 
--- addresses of the link's and the guard's word in pages of the parent; pages listed of a coffer
+-- the first page that isn't the parent's, of the addresses of the link's and the guard's word; else the first listed page that is bad
 abbrev pub pages_refused : List Word → ℕ → List ℕ → ℕ → List ℕ → List ℕ → Option KernAnswer
 pages_refused words parent addrs id kept pages = not_yours (bad_address_page words parent addrs) (find (is_bad_page words id kept pages) pages)
 
@@ -308,7 +308,7 @@ new_row callers words holders thread now parent path kind mode link guard = reco
   holders = holders;
 }
 
--- What a Delete, a Merge and a Mode need first: the coffer, its owner's right, an exclusive map of it as its owner.
+-- What a Delete, a Merge and a Mode need first: the coffer, and the right Own on it.
 
 abbrev pub owner_refused : Callers → List Word → ℕ → ℕ → List (Option KernAnswer)
 owner_refused callers words thread id =
@@ -316,7 +316,8 @@ owner_refused callers words thread id =
     ∷ refused_where (refuses (named words id).perm (cred_of callers thread) own_right) (answer.Denied own_right 0 0)
     ∷ []
 
--- the parent is the coffer that the other lies directly under, and the caller may write there
+-- the caller holds the coffer as its owner, for itself alone; the parent is the coffer that it lies directly under; and the caller
+-- holds that for writing
 abbrev pub holds_both : List Word → List Holder → ℕ → ℕ → ℕ → Bool
 holds_both words holders thread id parent =
     holds_as_owner thread id holders && is_coffer parent (coffer_above (coffers words) (named words id).path) && holds_for_writing thread parent holders
