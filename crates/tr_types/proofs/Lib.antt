@@ -7,3 +7,5 @@ pub mod MachineLemmas
 -- laws of the registers before any thread has opened a key
 pub mod Registers
 pub mod StepLemmas
+-- bits as a set has them
+mod BitLemmas

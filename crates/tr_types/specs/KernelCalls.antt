@@ -1,6 +1,6 @@
 -- The kernel's calls, one row for each: what refuses it, in order, and what it does. A row is made from the callers, the
 -- memory, who holds which coffer, the calling thread and the tick. No committed pair stands when a call comes.
-use Rattle.std.specs.Prelude.{◌≡◌, ◌⊎◌, ℕ, ◌+◌, ◌-◌, ◌*◌, ◌/◌, ◌%◌, ◌^◌, ◌<◌, ◌≤◌, List, [], ◌∷◌, ◌++◌, length, map, take, filter, fold, Bool, true, false, not, Option, Some, None, is_some, if◌then◌else◌, ◌==◌, ◌&&◌, ◌||◌, nat_lt, nat_le, slice_index_or, All, codes}
+use Rattle.std.specs.Prelude.{◌≡◌, ◌⊎◌, ℕ, ◌+◌, ◌*◌, ◌/◌, ◌%◌, ◌^◌, ◌<◌, ◌≤◌, List, [], ◌∷◌, ◌++◌, length, map, take, filter, fold, Bool, true, false, not, Option, Some, None, is_some, if◌then◌else◌, ◌==◌, ◌&&◌, ◌||◌, nat_lt, slice_index_or, codes}
 use Rattle.std.specs.List.{range_with_len, list_any, flat_map, count_by, find}
 use Rattle.zo_layout.specs.Layout.{owner_word, page_at, word_of, page_kind}
 use Rattle.pm_words.specs.Word.{Word}
@@ -13,6 +13,7 @@ use Rattle.tr_types.specs.Inner.{made_all, journal_events}
 use Rattle.tr_types.specs.KernelTables.{Coffer, is_mode}
 use Rattle.tr_types.specs.Kernel.{kernel_owner, coffer_pages, spare_pages, coffers}
 use Rattle.tr_types.specs.PathMap.{coffer_of_path, coffer_above, children_of, coffer_with, coffer_at_path, is_coffer, free_id, added_pairs, dropped_pairs, perm_pairs, state_pairs}
+use Rattle.tr_types.specs.Permission.{refuses, own_right}
 use Rattle.tr_types.specs.Rights.{process_of, has_bit, key_for, those_against, is_row_of, with_row, without_row}
 use Rattle.tr_types.specs.declared.inner.Inner.{Inner}
 use Rattle.tr_types.specs.declared.inner.Inner.TheVariants.{Store, Flush, Fence}
@@ -26,23 +27,6 @@ use Rattle.tr_types.specs.declared.kernel_call.Mapped.{Mapped}
 use Rattle.tr_types.specs.declared.permission.Cred.{Cred}
 use Rattle.tr_types.specs.declared.permission.Perm.{Perm}
 use Rattle.tr_types.specs.declared.permission.Right.{Right}
-
--- Permission.
-
--- the octal digit of a mode that counts for a caller: the owner's, else the group's, else the third
-abbrev pub digit_for : Perm → Cred → ℕ
-digit_for perm cred =
-    if cred.uid == perm.uid then perm.mode / 64 % 8 else (if cred.gid == perm.gid then perm.mode / 8 % 8 else perm.mode % 8)
-
--- A right of the set isn't given: Read (bit 0) needs 4 in the digit, Write (bit 1) needs 2, Own (bit 2) the owner's uid. Uid 0 is refused
--- nothing.
-abbrev pub refuses : Perm → Cred → Right → Bool
-refuses perm cred right =
-    not (cred.uid == 0)
-    && ((has_bit right.0 0 && not (has_bit (digit_for perm cred) 2)) || (has_bit right.0 1 && not (has_bit (digit_for perm cred) 1)) || (has_bit right.0 2 && not (cred.uid == perm.uid)))
-
-abbrev pub own_right : Right
-own_right = record { 0 = 4 }
 
 -- Who calls.
 
@@ -259,14 +243,14 @@ mapped_as words c key = record {
 abbrev pub map_row : Callers → List Word → List Holder → ℕ → List ℕ → Right → Bool → Row
 map_row callers words holders thread path right exclusive =
     row_of_maps
-      (refused_where (is_bad_look path) answer.BadPath
-      ∷ refused_where (refuses (located words path).perm (cred_of callers thread) right) (answer.Denied right (located words path).id (length (located words path).path))
-      ∷ refused_where ((located words path).state == 2) (answer.Quarantined (located words path).id (length (located words path).path))
-      ∷ in_use (located words path) (those_against thread (located words path).id exclusive holders)
-      ∷ refused_where (not (is_some (key_for callers.threads holders thread (located words path).id))) (answer.NoKey (located words path).id (length (located words path).path))
-      ∷ [])
-      (answer.Mapped (mapped_as words (located words path) (key_or_none (key_for callers.threads holders thread (located words path).id))))
-      (with_row (record { thread = thread; id = (located words path).id; key = key_or_none (key_for callers.threads holders thread (located words path).id); right = right; exclusive = exclusive }) holders)
+    (refused_where (is_bad_look path) answer.BadPath
+    ∷ refused_where (refuses (located words path).perm (cred_of callers thread) right) (answer.Denied right (located words path).id (length (located words path).path))
+    ∷ refused_where ((located words path).state == 2) (answer.Quarantined (located words path).id (length (located words path).path))
+    ∷ in_use (located words path) (those_against thread (located words path).id exclusive holders)
+    ∷ refused_where (not (is_some (key_for callers.threads holders thread (located words path).id))) (answer.NoKey (located words path).id (length (located words path).path))
+    ∷ [])
+    (answer.Mapped (mapped_as words (located words path) (key_or_none (key_for callers.threads holders thread (located words path).id))))
+    (with_row (record { thread = thread; id = (located words path).id; key = key_or_none (key_for callers.threads holders thread (located words path).id); right = right; exclusive = exclusive }) holders)
 
 -- Unmap: the caller's map of a coffer ends.
 

@@ -38,6 +38,8 @@ pub mod PathMap
 pub mod Kernel
 -- the single steps of the kernel
 pub mod Inner
+-- what a permission gives
+pub mod Permission
 -- the kernel's calls
 pub mod KernelCalls
 -- the same, of a root coffer that is the only one

@@ -16,6 +16,6 @@ pub use command::{Command, Kind, Reply};
 pub use entry::{CofferList, CofferRow, CofferState, Entry, Mark, Pick, Trace, Why};
 pub use inner::Inner;
 pub use kernel_call::{FoundAt, Holder, Kcall, KernAnswer, Mapped};
-pub use permission::{Cred, Perm, Right};
+pub use permission::{Cred, Perm, Right, refuses};
 pub use rule::Rule;
 pub use text::{Bytes, Name, Names, Pages, Path};
