@@ -1,7 +1,8 @@
--- What the values of the register that are used allow, and what the keys say.
-use Rattle.std.specs.Prelude.{ℕ, ◌≡◌, ◌≢◌, ◌≤◌, ◌↔◌, Contains, Bool, true, false, Some, None, ◌==◌, ◌&&◌}
+-- What the values of the register that are used allow, and what keys and rows say.
+use Rattle.std.specs.Prelude.{ℕ, ◌≡◌, ◌≢◌, ◌≤◌, ◌↔◌, Contains, Bool, true, false, Option, Some, None, ◌==◌, ◌&&◌}
 use Rattle.tr_types.specs.declared.kernel_call.Holder.{Holder}
-use Rattle.tr_types.specs.Rights.{may_read, may_write, closed_pkru, only_pkru, key_in, key_for, are_together, load_fault, store_fault}
+use Rattle.tr_types.specs.KernelCalls.{holds_any, holds_for_writing, holds_as_owner, row_of}
+use Rattle.tr_types.specs.Rights.{has_bit, may_read, may_write, closed_pkru, only_pkru, key_in, key_for, are_together, load_fault, store_fault}
 use Rattle.page_rights.specs.Tables.{View, IsSound}
 
 -- one key of 1 to 15 alone, for loads, and for stores as asked
@@ -33,3 +34,16 @@ HasOtherAt v thread coffer key = (h : Holder) × Contains v.holders h × (are_to
 abbrev pub NoKeyMeansFifteenOthers : Type 0
 NoKeyMeansFifteenOthers =
     (v : View) (thread coffer : ℕ) → IsSound v → (key_for v.threads v.holders thread coffer ≡ None) ↔ ((key : ℕ) → 1 ≤ key → key ≤ 15 → HasOtherAt v thread coffer key)
+
+-- The thread's own row of a coffer says all of the thread's hold on it.
+
+abbrev pub row_gives : (Holder → Bool) → Option Holder → Bool
+row_gives test None = false
+row_gives test (Some row) = test row
+
+abbrev pub RowTellsAll : Type 0
+RowTellsAll =
+    (v : View) (thread coffer : ℕ) → IsSound v
+    → (holds_any thread coffer v.holders ≡ row_gives (λ row. true) (row_of thread coffer v.holders))
+    × (holds_for_writing thread coffer v.holders ≡ row_gives (λ row. has_bit row.right.0 1) (row_of thread coffer v.holders))
+    × (holds_as_owner thread coffer v.holders ≡ row_gives (λ row. has_bit row.right.0 2 && row.exclusive) (row_of thread coffer v.holders))

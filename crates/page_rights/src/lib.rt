@@ -11,7 +11,7 @@ mod pkru;
 mod rows;
 mod tables;
 
-pub use laws::{keys_law, register_law};
+pub use laws::{keys_law, register_law, row_law};
 pub use pkru::Pkru;
 pub use tables::{MapFault, Tables};
 

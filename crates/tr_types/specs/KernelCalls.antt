@@ -63,6 +63,10 @@ holds_as_owner thread id holders = list_any (λ h. is_row_of thread id h && has_
 abbrev pub holds_any : ℕ → ℕ → List Holder → Bool
 holds_any thread id holders = list_any (is_row_of thread id) holders
 
+-- the caller's own row of the coffer
+abbrev pub row_of : ℕ → ℕ → List Holder → Option Holder
+row_of thread id holders = find (is_row_of thread id) holders
+
 -- no map of the coffer is left
 abbrev pub without_coffer : ℕ → List Holder → List Holder
 without_coffer id holders = filter (λ (h : Holder). not (h.id == id)) holders
