@@ -1,5 +1,5 @@
 -- A thread has at most one row of a coffer, so that this row says all of the thread's hold on it.
-use Rattle.std.proofs.Common.{◌≡◌, ℕ, suc, ◌+◌, ◌≤◌, List, [], ◌∷◌, ◌++◌, Bool, true, false, not, ◌&&◌, ◌||◌, length, refl, ap, sym, ◌∙◌, ◌⊎◌, inl, inr, cond, eqb, arith, Some}
+use Rattle.std.proofs.Common.{◌≡◌, ℕ, suc, ◌+◌, ◌≤◌, List, [], ◌∷◌, ◌++◌, Bool, true, false, not, ◌&&◌, ◌||◌, length, refl, ap, sym, ◌∙◌, ◌⊎◌, inl, inr, cond, eqb, arith, All, Some}
 use Rattle.std.specs.Prelude.{filter}
 use Rattle.std.specs.List.{list_any, find}
 use Rattle.std.proofs.lemmas.Bool.{cases_eq, eq-eqb, eqb-true, and_parts, or_cases, not-false, both_ways}

@@ -1,7 +1,7 @@
 -- What the values of the register that are used allow, and what keys and rows say.
 use Rattle.std.specs.Prelude.{ℕ, ◌≡◌, ◌≢◌, ◌≤◌, ◌↔◌, Contains, Bool, true, false, Option, Some, None, ◌==◌, ◌&&◌}
 use Rattle.tr_types.specs.declared.kernel_call.Holder.{Holder}
-use Rattle.tr_types.specs.KernelCalls.{holds_any, holds_for_writing, holds_as_owner, row_of}
+use Rattle.tr_types.specs.KernelCalls.{holds_any, holds_for_writing, holds_as_owner, own_row}
 use Rattle.tr_types.specs.Rights.{has_bit, may_read, may_write, closed_pkru, only_pkru, key_in, key_for, are_together, load_fault, store_fault}
 use Rattle.page_rights.specs.Tables.{View, IsSound}
 
@@ -44,6 +44,6 @@ row_gives test (Some row) = test row
 abbrev pub RowTellsAll : Type 0
 RowTellsAll =
     (v : View) (thread coffer : ℕ) → IsSound v
-    → (holds_any thread coffer v.holders ≡ row_gives (λ row. true) (row_of thread coffer v.holders))
-    × (holds_for_writing thread coffer v.holders ≡ row_gives (λ row. has_bit row.right.0 1) (row_of thread coffer v.holders))
-    × (holds_as_owner thread coffer v.holders ≡ row_gives (λ row. has_bit row.right.0 2 && row.exclusive) (row_of thread coffer v.holders))
+    → (holds_any thread coffer v.holders ≡ row_gives (λ row. true) (own_row thread coffer v.holders))
+    × (holds_for_writing thread coffer v.holders ≡ row_gives (λ row. has_bit row.right.0 1) (own_row thread coffer v.holders))
+    × (holds_as_owner thread coffer v.holders ≡ row_gives (λ row. has_bit row.right.0 2 && row.exclusive) (own_row thread coffer v.holders))

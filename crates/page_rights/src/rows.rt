@@ -146,8 +146,8 @@ fn is_row_of(holder: &Holder, thread: u16, id: u16) -> bool
 }
 
 /// The thread's own row of the coffer.
-pub fn row_of(holders: &[Holder], thread: u16, id: u16) -> Option<Holder>
-    ensures { result ≡ calls.row_of thread id holders.now }
+pub fn own_row(holders: &[Holder], thread: u16, id: u16) -> Option<Holder>
+    ensures { result ≡ calls.own_row thread id holders.now }
 {
     for holder in holders {
         if is_row_of(holder, thread, id) {

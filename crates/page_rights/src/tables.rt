@@ -189,10 +189,10 @@ impl Tables {
 
     /// A thread's own row of a coffer. It has at most one. Takes no memory.
     pub fn row(&self, thread: u16, id: u16) -> Option<Holder>
-        ensures row { result ≡ calls.row_of thread id self.now.holders }
+        ensures row { result ≡ calls.own_row thread id self.now.holders }
         ensures sound { spec.IsSound self.now }
     {
-        rows::row_of(&self.holders, thread, id)
+        rows::own_row(&self.holders, thread, id)
     }
 
     /// Whether a thread itself holds a coffer. Takes no memory.

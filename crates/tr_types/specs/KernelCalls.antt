@@ -64,8 +64,8 @@ abbrev pub holds_any : ℕ → ℕ → List Holder → Bool
 holds_any thread id holders = list_any (is_row_of thread id) holders
 
 -- the caller's own row of the coffer
-abbrev pub row_of : ℕ → ℕ → List Holder → Option Holder
-row_of thread id holders = find (is_row_of thread id) holders
+abbrev pub own_row : ℕ → ℕ → List Holder → Option Holder
+own_row thread id holders = find (is_row_of thread id) holders
 
 -- no map of the coffer is left
 abbrev pub without_coffer : ℕ → List Holder → List Holder
