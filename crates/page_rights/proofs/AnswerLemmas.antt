@@ -1,5 +1,5 @@
 -- The last steps of the tables' own calls.
-use Rattle.std.proofs.Common.{◌≡◌, ◌≢◌, ℕ, ◌<◌, ◌≤◌, List, [], ◌∷◌, Bool, true, false, not, length, get_or, refl, ap, sym, subst, ◌∙◌, ◌⊎◌, inl, inr, cond, eqb, arith, Option, Some}
+use Rattle.std.proofs.Common.{◌≡◌, ℕ, ◌≤◌, List, [], ◌∷◌, Bool, true, false, not, refl, ap, sym, subst, ◌∙◌, cond, arith, Option, Some}
 use Rattle.std.specs.Prelude.{OnOk, is_err, Result, Ok, Err}
 use Rattle.std.proofs.lemmas.Bool.{or_parts, both_ways}
 use Rattle.std.proofs.lemmas.List.Elements.{filter_agree}

@@ -1,8 +1,8 @@
 -- A thread has at most one row of a coffer, so that this row says all of the thread's hold on it.
-use Rattle.std.proofs.Common.{◌≡◌, ℕ, suc, ◌+◌, ◌≤◌, List, [], ◌∷◌, ◌++◌, Bool, true, false, not, ◌&&◌, ◌||◌, length, refl, ap, sym, ◌∙◌, ◌⊎◌, inl, inr, cond, eqb, arith, All, Some}
+use Rattle.std.proofs.Common.{◌≡◌, ℕ, suc, ◌+◌, ◌≤◌, List, [], ◌∷◌, Bool, true, false, not, ◌&&◌, ◌||◌, length, refl, ap, sym, ◌∙◌, ◌⊎◌, inl, inr, cond, eqb, arith, All, Some}
 use Rattle.std.specs.Prelude.{filter}
 use Rattle.std.specs.List.{list_any, find}
-use Rattle.std.proofs.lemmas.Bool.{cases_eq, eq-eqb, eqb-true, and_parts, or_cases, not-false, both_ways}
+use Rattle.std.proofs.lemmas.Bool.{eqb-true, and_parts, or_cases, both_ways}
 use Rattle.std.proofs.lemmas.List.{length-append}
 use Rattle.std.proofs.lemmas.List.Elements.{All-head, All-tail, filter-append}
 use Rattle.tr_types.specs.declared.kernel_call.Holder.{Holder}
@@ -22,24 +22,24 @@ fewer p keep (h ∷ holders) = by (keep h) refl (p h) refl (fewer p keep holders
         → length (filter p (cond (keep h) (h ∷ filter keep holders) (filter keep holders))) ≤ length (cond (p h) (h ∷ filter p holders) (filter p holders))
     by true stays true passes rest =
         let new : length (filter p (cond (keep h) (h ∷ filter keep holders) (filter keep holders))) ≡ suc (length (filter p (filter keep holders))) =
-            ap (λ (k : Bool). length (filter p (cond k (h ∷ filter keep holders) (filter keep holders)))) stays
-            ∙ ap (λ (b : Bool). length (cond b (h ∷ filter p (filter keep holders)) (filter p (filter keep holders)))) passes in
+        ap (λ (k : Bool). length (filter p (cond k (h ∷ filter keep holders) (filter keep holders)))) stays
+        ∙ ap (λ (b : Bool). length (cond b (h ∷ filter p (filter keep holders)) (filter p (filter keep holders)))) passes in
         let old : length (cond (p h) (h ∷ filter p holders) (filter p holders)) ≡ suc (length (filter p holders)) = ap (λ (b : Bool). length (cond b (h ∷ filter p holders) (filter p holders))) passes in
         omega arith
     by true stays false fails rest =
         let new : length (filter p (cond (keep h) (h ∷ filter keep holders) (filter keep holders))) ≡ length (filter p (filter keep holders)) =
-            ap (λ (k : Bool). length (filter p (cond k (h ∷ filter keep holders) (filter keep holders)))) stays
-            ∙ ap (λ (b : Bool). length (cond b (h ∷ filter p (filter keep holders)) (filter p (filter keep holders)))) fails in
+        ap (λ (k : Bool). length (filter p (cond k (h ∷ filter keep holders) (filter keep holders)))) stays
+        ∙ ap (λ (b : Bool). length (cond b (h ∷ filter p (filter keep holders)) (filter p (filter keep holders)))) fails in
         let old : length (cond (p h) (h ∷ filter p holders) (filter p holders)) ≡ length (filter p holders) = ap (λ (b : Bool). length (cond b (h ∷ filter p holders) (filter p holders))) fails in
         omega arith
     by false goes true passes rest =
         let new : length (filter p (cond (keep h) (h ∷ filter keep holders) (filter keep holders))) ≡ length (filter p (filter keep holders)) =
-            ap (λ (k : Bool). length (filter p (cond k (h ∷ filter keep holders) (filter keep holders)))) goes in
+        ap (λ (k : Bool). length (filter p (cond k (h ∷ filter keep holders) (filter keep holders)))) goes in
         let old : length (cond (p h) (h ∷ filter p holders) (filter p holders)) ≡ suc (length (filter p holders)) = ap (λ (b : Bool). length (cond b (h ∷ filter p holders) (filter p holders))) passes in
         omega arith
     by false goes false fails rest =
         let new : length (filter p (cond (keep h) (h ∷ filter keep holders) (filter keep holders))) ≡ length (filter p (filter keep holders)) =
-            ap (λ (k : Bool). length (filter p (cond k (h ∷ filter keep holders) (filter keep holders)))) goes in
+        ap (λ (k : Bool). length (filter p (cond k (h ∷ filter keep holders) (filter keep holders)))) goes in
         let old : length (cond (p h) (h ∷ filter p holders) (filter p holders)) ≡ length (filter p holders) = ap (λ (b : Bool). length (cond b (h ∷ filter p holders) (filter p holders))) fails in
         omega arith
 
@@ -74,14 +74,14 @@ one_with_row thread id row holders one = by (is_row_of thread id row) refl
     by true is =
         let parts = and_parts (eqb row.thread thread) (eqb row.id id) is in
         let none : length (filter (is_row_of thread id) (without_row row.thread row.id holders)) ≡ 0 =
-            (λ i. length (filter (is_row_of thread id) (without_row (eqb-true row.thread thread parts.0 i) (eqb-true row.id id parts.1 i) holders)))
-            ∙ ap (λ (hs : List Holder). length hs) (none_left thread id holders) in
+        (λ i. length (filter (is_row_of thread id) (without_row (eqb-true row.thread thread parts.0 i) (eqb-true row.id id parts.1 i) holders)))
+        ∙ ap (λ (hs : List Holder). length hs) (none_left thread id holders) in
         let last : length (cond (is_row_of thread id row) (row ∷ []) []) ≡ 1 = ap (λ (b : Bool). length (cond b (row ∷ []) [])) is in
         let whole = split in
         omega arith
     by false is =
         let before : length (filter (is_row_of thread id) (without_row row.thread row.id holders)) ≤ length (filter (is_row_of thread id) holders) =
-            fewer (is_row_of thread id) (λ h. not (is_row_of row.thread row.id h)) holders in
+        fewer (is_row_of thread id) (λ h. not (is_row_of row.thread row.id h)) holders in
         let last : length (cond (is_row_of thread id row) (row ∷ []) []) ≡ 0 = ap (λ (b : Bool). length (cond b (row ∷ []) [])) is in
         let whole = split in
         omega arith

@@ -1,4 +1,4 @@
-use Rattle.std.proofs.Common.{ℕ, List, Option, sym, ap, ◌∙◌, subst, get_or, length}
+use Rattle.std.proofs.Common.{ℕ, List, Option, sym, ap, ◌∙◌, subst, get_or}
 use Rattle.std.specs.Prelude.{IsSome}
 use Rattle.page_rights.specs.declared.mapping.Mapping.{Mapping}
 use Rattle.page_rights.specs.Lookup.{process_at, mapping_at}
