@@ -1,5 +1,5 @@
 -- A thread has at most one row of a coffer, so that this row says all of the thread's hold on it.
-use Rattle.std.proofs.Common.{◌≡◌, ℕ, suc, ◌+◌, ◌≤◌, List, [], ◌∷◌, Bool, true, false, not, ◌&&◌, ◌||◌, length, refl, ap, sym, ◌∙◌, ◌⊎◌, inl, inr, cond, eqb, arith, All, Some}
+use Rattle.std.proofs.Common.{◌≡◌, ℕ, suc, ◌+◌, ◌≤◌, List, [], ◌∷◌, Bool, true, false, not, ◌&&◌, ◌||◌, length, refl, ap, sym, subst, ◌∙◌, ◌⊎◌, inl, inr, cond, eqb, arith, All, Some}
 use Rattle.std.specs.Prelude.{filter}
 use Rattle.std.specs.List.{list_any, find}
 use Rattle.std.proofs.lemmas.Bool.{eqb-true, and_parts, or_cases, both_ways}
@@ -10,38 +10,28 @@ use Rattle.tr_types.specs.Rights.{has_bit, is_row_of, without_row, with_row}
 use Rattle.page_rights.specs.Tables.{IsRow, HasOneRow}
 use Rattle.page_rights.specs.Laws.{row_gives, RowTellsAll}
 
+module _ (h : Holder) where
+  same_head : (b : Bool) (xs ys : List Holder) → length xs ≤ length ys → length (cond b (h ∷ xs) xs) ≤ length (cond b (h ∷ ys) ys)
+  same_head true xs ys less = omega arith
+  same_head false xs ys less = less
+
+  one_more : (b : Bool) (xs ys : List Holder) → length xs ≤ length ys → length xs ≤ length (cond b (h ∷ ys) ys)
+  one_more true xs ys less = omega arith
+  one_more false xs ys less = less
+
 -- fewer rows, fewer of those that pass
 fewer : (p keep : Holder → Bool) (holders : List Holder) → length (filter p (filter keep holders)) ≤ length (filter p holders)
 fewer p keep [] = omega arith
-fewer p keep (h ∷ holders) = by (keep h) refl (p h) refl (fewer p keep holders)
+fewer p keep (h ∷ holders) = by (keep h) refl (fewer p keep holders)
   where
-    kept : List Holder
-    kept = filter keep holders
-
-    by : (k : Bool) → keep h ≡ k → (b : Bool) → p h ≡ b → length (filter p (filter keep holders)) ≤ length (filter p holders)
-        → length (filter p (cond (keep h) (h ∷ filter keep holders) (filter keep holders))) ≤ length (cond (p h) (h ∷ filter p holders) (filter p holders))
-    by true stays true passes rest =
-        let new : length (filter p (cond (keep h) (h ∷ filter keep holders) (filter keep holders))) ≡ suc (length (filter p (filter keep holders))) =
-        ap (λ (k : Bool). length (filter p (cond k (h ∷ filter keep holders) (filter keep holders)))) stays
-        ∙ ap (λ (b : Bool). length (cond b (h ∷ filter p (filter keep holders)) (filter p (filter keep holders)))) passes in
-        let old : length (cond (p h) (h ∷ filter p holders) (filter p holders)) ≡ suc (length (filter p holders)) = ap (λ (b : Bool). length (cond b (h ∷ filter p holders) (filter p holders))) passes in
-        omega arith
-    by true stays false fails rest =
-        let new : length (filter p (cond (keep h) (h ∷ filter keep holders) (filter keep holders))) ≡ length (filter p (filter keep holders)) =
-        ap (λ (k : Bool). length (filter p (cond k (h ∷ filter keep holders) (filter keep holders)))) stays
-        ∙ ap (λ (b : Bool). length (cond b (h ∷ filter p (filter keep holders)) (filter p (filter keep holders)))) fails in
-        let old : length (cond (p h) (h ∷ filter p holders) (filter p holders)) ≡ length (filter p holders) = ap (λ (b : Bool). length (cond b (h ∷ filter p holders) (filter p holders))) fails in
-        omega arith
-    by false goes true passes rest =
-        let new : length (filter p (cond (keep h) (h ∷ filter keep holders) (filter keep holders))) ≡ length (filter p (filter keep holders)) =
-        ap (λ (k : Bool). length (filter p (cond k (h ∷ filter keep holders) (filter keep holders)))) goes in
-        let old : length (cond (p h) (h ∷ filter p holders) (filter p holders)) ≡ suc (length (filter p holders)) = ap (λ (b : Bool). length (cond b (h ∷ filter p holders) (filter p holders))) passes in
-        omega arith
-    by false goes false fails rest =
-        let new : length (filter p (cond (keep h) (h ∷ filter keep holders) (filter keep holders))) ≡ length (filter p (filter keep holders)) =
-        ap (λ (k : Bool). length (filter p (cond k (h ∷ filter keep holders) (filter keep holders)))) goes in
-        let old : length (cond (p h) (h ∷ filter p holders) (filter p holders)) ≡ length (filter p holders) = ap (λ (b : Bool). length (cond b (h ∷ filter p holders) (filter p holders))) fails in
-        omega arith
+    by : (k : Bool) → keep h ≡ k → length (filter p (filter keep holders)) ≤ length (filter p holders)
+        → length (filter p (cond (keep h) (h ∷ filter keep holders) (filter keep holders))) ≤ length (filter p (h ∷ holders))
+    by true stays rest =
+        subst (λ (k : Bool). length (filter p (cond k (h ∷ filter keep holders) (filter keep holders))) ≤ length (filter p (h ∷ holders))) (sym stays)
+        (same_head h (p h) (filter p (filter keep holders)) (filter p holders) rest)
+    by false goes rest =
+        subst (λ (k : Bool). length (filter p (cond k (h ∷ filter keep holders) (filter keep holders))) ≤ length (filter p (h ∷ holders))) (sym goes)
+        (one_more h (p h) (filter p (filter keep holders)) (filter p holders) rest)
 
 pub one_filtered : (thread id : ℕ) (keep : Holder → Bool) (holders : List Holder) → HasOneRow holders thread id → HasOneRow (filter keep holders) thread id
 one_filtered thread id keep holders one = let less = fewer (is_row_of thread id) keep holders in omega arith
@@ -62,9 +52,6 @@ none_left thread id (h ∷ holders) = by (is_row_of thread id h) refl (none_left
 pub one_with_row : (thread id : ℕ) (row : Holder) (holders : List Holder) → HasOneRow holders thread id → HasOneRow (with_row row holders) thread id
 one_with_row thread id row holders one = by (is_row_of thread id row) refl
   where
-    rest : List Holder
-    rest = without_row row.thread row.id holders
-
     split : length (filter (is_row_of thread id) (with_row row holders)) ≡ length (filter (is_row_of thread id) (without_row row.thread row.id holders)) + length (cond (is_row_of thread id row) (row ∷ []) [])
     split =
         ap (λ (hs : List Holder). length hs) (filter-append (is_row_of thread id) (without_row row.thread row.id holders) (row ∷ []))

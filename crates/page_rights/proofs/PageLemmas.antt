@@ -4,6 +4,7 @@ use Rattle.std.proofs.lemmas.Bool.{cases_eq, cases_lt}
 use Rattle.std.proofs.lemmas.List.{set_past, length-set}
 use Rattle.std.proofs.lemmas.List.Elements.{Contains-push, Contains-append_left, Contains-append_right, Contains-append_cases}
 use Rattle.page_rights.specs.Tables.{with_pages}
+use Rattle.page_rights.specs.Laws.{PutsThesePages}
 
 pub length_with_pages : (id : ℕ) (pages owners : List ℕ) → length (with_pages id pages owners) ≡ length owners
 length_with_pages id [] owners = refl
@@ -64,3 +65,6 @@ page_among id (q ∷ pages) owners page inside has =
     by rest (inl here) =
         let same : q ≡ page = first (inl here) in
         page_stays id pages (set owners q id) page (ap (λ (p : ℕ). get_or (set owners q id) p 0) (sym same) ∙ get_or-set_same owners q id 0 (let e = same in omega arith))
+
+pub puts_these_pages : PutsThesePages
+puts_these_pages id pages owners page = (page_among id pages owners page, page_other id pages owners page)
