@@ -1,4 +1,4 @@
-use Rattle.std.specs.Prelude.{◌≡◌, ℕ, ◌*◌, ◌/◌, ◌%◌, ◌<◌, ◌≤◌, ◌==◌, List, map, slice_index_or, slice_set, if◌then◌else◌}
+use Rattle.std.specs.Prelude.{◌≡◌, ℕ, ◌*◌, ◌/◌, ◌%◌, ◌<◌, ◌≤◌, ◌==◌, List, [], length, map, slice_index_or, slice_set, if◌then◌else◌}
 use Rattle.std.specs.List.{enumerate_from}
 use Rattle.pm_words.specs.Word.{Word, settled, stored, flushed, fenced}
 
@@ -38,6 +38,10 @@ all_durable values = map settled values
 pub record IsAddress (count address : ℕ) : Type 0 where
   pub aligned : address % 8 ≡ 0
   pub inside : address / 8 < count
+
+-- no word of the line that a byte address is in has an older value that a crash may leave
+abbrev pub IsLineDurable : List Word → ℕ → Type 0
+IsLineDurable words address = (k : ℕ) → k < length words → k / 8 ≡ address / 64 → (slice_index_or words k (settled 0)).older ≡ []
 
 -- `count` words are this many whole pages of 512 words, from 64 pages to 16,384
 pub record IsPages (count pages : ℕ) : Type 0 where

@@ -1,7 +1,7 @@
 //! What a crash leaves of the pending words.
 
-ghost use Rattle.std.specs.Prelude.{◌≡◌, ℕ, ◌+◌, ◌*◌, ◌<◌, ◌^◌, ◌++◌, ◌∷◌, [], length, slice_index_or};
-ghost use Rattle.pm_words.specs.View.{older_at};
+ghost use Rattle.std.specs.Prelude.{◌≡◌, ℕ, ◌+◌, ◌*◌, ◌<◌, ◌^◌, ◌≢◌, ◌++◌, ◌∷◌, [], length, slice_index_or};
+ghost use Rattle.pm_words.specs.View.{older_at, ArePending};
 ghost use Rattle.pm_words.specs.Crash.{picked};
 ghost use Rattle.pm_words.specs.Hash.{fnv64_of};
 ghost use Rattle.std.specs.Int.{w64, to_le_bytes};
@@ -49,25 +49,28 @@ fn hash_of(seed: u64, addr: u64) -> u64
     fnv64(&bytes)
 }
 
-// The value that a crash leaves in the word at a place.
-fn left_at(pending: &IndexMap<usize, Pending>, choice: Choice, place: usize, present: u64) -> u64
-    requires { place < 2 ^ 60 }
-    ensures { result ≡ picked choice (8 * place) (older_at pending.now.entries place) present }
+// Leaves in the word at a place the value that the choice names.
+fn settle_word(present: &mut [u64], choice: Choice, place: usize, word: &Pending)
+    requires inside { place < length present.old }
+    requires small { length present.old < 2 ^ 60 }
+    ensures len { length present.new ≡ length present.old }
+    ensures here { slice_index_or present.new place 0 ≡ picked choice (8 * place) word.now.older (slice_index_or present.old place 0) }
+    ensures others { (k : ℕ) → k ≢ place → slice_index_or present.new k 0 ≡ slice_index_or present.old k 0 }
 {
     let addr = (WORD_BYTES * place) as u64;
-    match pending.get(&place) {
-        Some(word) => left_of(choice, addr, word.older(), present),
-        None => left_of(choice, addr, &[], present),
-    }
+    present[place] = left_of(choice, addr, word.older(), present[place]);
 }
 
-/// Leaves in each word the value that the choice names.
-pub fn settle(present: &mut [u64], pending: &IndexMap<usize, Pending>, choice: Choice)
-    requires { length present.old < 2 ^ 60 }
+/// Leaves in each pending word the value that the choice names, and no entry. Takes no memory, and
+/// time in proportion to the words that are pending.
+pub fn settle(present: &mut [u64], pending: &mut IndexMap<usize, Pending>, choice: Choice)
+    requires small { length present.old < 2 ^ 60 }
+    requires pending { ArePending (length present.old) pending.old.entries }
     ensures len { length present.new ≡ length present.old }
-    ensures left { (k : ℕ) → k < length present.old → slice_index_or present.new k 0 ≡ picked choice (8 * k) (older_at pending.now.entries k) (slice_index_or present.old k 0) }
+    ensures left { (k : ℕ) → slice_index_or present.new k 0 ≡ picked choice (8 * k) (older_at pending.old.entries k) (slice_index_or present.old k 0) }
+    ensures none { pending.new.entries ≡ [] }
 {
-    for place in 0..present.len() {
-        present[place] = left_at(pending, choice, place, present[place]);
+    while let Some((place, word)) = pending.pop() {
+        settle_word(present, choice, place, &word);
     }
 }

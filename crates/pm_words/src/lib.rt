@@ -1,4 +1,4 @@
-//! The memory of a machine with persistent memory, as far as loads and stores go.
+//! The memory of a machine with persistent memory: its words, and what a crash may leave of them.
 //!
 //! The memory is a row of words of 8 bytes, in pages of 4,096 bytes. An address is the byte address
 //! of a word, a multiple of 8. A store changes a word at once, but only for as long as the machine

@@ -1,14 +1,14 @@
 //! The words of a running machine.
 
-ghost use Rattle.std.specs.Prelude.{◌≡◌, ◌*◌, ◌/◌, ◌<◌, ◌≤◌, ◌^◌, length, replicate, IfOk, OnOk, OnErr};
+ghost use Rattle.std.specs.Prelude.{◌≡◌, ◌≢◌, ◌*◌, ◌/◌, ◌<◌, ◌≤◌, ◌^◌, length, replicate, ℕ, false, IsOk, IfOk, OnOk, OnErr};
 ghost use Rattle.pm_words.specs.Word.{crash_list};
-ghost use Rattle.pm_words.specs.Memory.{word_at, store_at, cas_at, flush_at, fence_by, present_values, all_durable, IsAddress, HasPages};
+ghost use Rattle.pm_words.specs.Memory.{word_at, store_at, cas_at, flush_at, fence_by, present_values, all_durable, IsAddress, IsLineDurable, HasPages};
 ghost use Rattle.pm_words.specs.Crash.{after_crash};
 
 use super::crash::settle;
 use super::fences::fence_lines;
 use super::marked::{Lines, note};
-use super::pending::{Pending, keep, mark_line, older_of, reserve_line};
+use super::pending::{Pending, has_pending, keep, mark_line, older_of, reserve_line};
 use super::{Choice, Image, NoMemory};
 use indexmap::IndexMap;
 use std::alloc::Global;
@@ -106,13 +106,14 @@ impl Words {
     }
 
     /// Stores `new` exactly where the word at a byte address has the value `old`. Answers the value
-    /// that was there. An error leaves the memory as it was.
+    /// that was there. An error leaves the memory as it was, and doesn't come where the value is another.
     pub fn cas(&mut self, addr: u64, old: u64, new: u64) -> Result<u64, NoMemory>
         requires { IsAddress (length self.old) addr }
         ensures value { IfOk result (λ value. value ≡ (word_at self.old addr).present) }
         ensures ok { OnOk result (self.new ≡ cas_at addr old new self.old) }
         ensures err { OnErr result (self.new ≡ self.old) }
         ensures len { length self.new ≡ length self.old }
+        ensures other { (word_at self.old addr).present ≢ old → IsOk result × (self.new ≡ self.old) }
     {
         let value = self.load(addr);
         if value == old {
@@ -122,15 +123,40 @@ impl Words {
     }
 
     /// Marks, for a thread, the present values of the 8 words of the line that a byte address is in.
-    /// An error leaves the memory as it was.
-    #[tactic(auto, using(crate::proofs::ViewLemmas::length_words_of))]
+    /// An error leaves the memory as it was. Where all these words are durable, this changes nothing,
+    /// takes no memory and can't fail.
     pub fn flush(&mut self, thread: u16, addr: u64) -> Result<(), NoMemory>
         requires { IsAddress (length self.old) addr }
         ensures ok { OnOk result (self.new ≡ flush_at thread addr self.old) }
         ensures err { OnErr result (self.new ≡ self.old) }
         ensures len { length self.new ≡ length self.old }
+        ensures durable { IsLineDurable self.old addr → IsOk result × (self.new ≡ self.old) }
     {
-        let first = word_index(addr) / LINE_WORDS * LINE_WORDS;
+        if self.is_line_pending(addr) {
+            self.mark(thread, addr)
+        } else {
+            Ok(())
+        }
+    }
+
+    // Whether a word of the line that a byte address is in is pending.
+    fn is_line_pending(&self, addr: u64) -> bool
+        requires { IsAddress (length self.now) addr }
+        ensures idle { result ≡ false → (thread : ℕ) → flush_at thread addr self.now ≡ self.now }
+        ensures durable { IsLineDurable self.now addr → result ≡ false }
+    {
+        has_pending(&self.pending, line_start(addr))
+    }
+
+    // Marks the words of a line for a thread, and notes the line for the thread's next fence.
+    #[tactic(auto, using(crate::proofs::ViewLemmas::length_words_of))]
+    fn mark(&mut self, thread: u16, addr: u64) -> Result<(), NoMemory>
+        requires { IsAddress (length self.old) addr }
+        ensures ok { OnOk result (self.new ≡ flush_at thread addr self.old) }
+        ensures err { OnErr result (self.new ≡ self.old) }
+        ensures len { length self.new ≡ length self.old }
+    {
+        let first = line_start(addr);
         reserve_line(&mut self.pending, first)?;
         note(&mut self.marked, self.alloc, thread, line_index(addr))?;
         mark_line(&mut self.pending, thread, first);
@@ -164,14 +190,13 @@ impl Words {
     }
 
     /// Leaves in each word the value of its list that the choice names. All words are durable after.
-    /// Takes no memory.
+    /// Takes no memory, and time in proportion to the words that are pending.
     #[tactic(auto, using(crate::proofs::ViewLemmas::length_words_of))]
     pub fn crash(&mut self, pick: Choice)
         ensures words { self.new ≡ after_crash pick self.old }
         ensures len { length self.new ≡ length self.old }
     {
-        settle(&mut self.present, &self.pending, pick);
-        self.pending.clear();
+        settle(&mut self.present, &mut self.pending, pick);
         self.marked.clear();
     }
 
@@ -192,6 +217,13 @@ fn word_index(addr: u64) -> usize
     ensures place { result ≡ addr / 8 }
 {
     (addr / WORD_BYTES) as usize
+}
+
+// The place of the first word of the line that a byte address is in.
+fn line_start(addr: u64) -> usize
+    ensures place { result ≡ 8 * (addr / 64) }
+{
+    LINE_WORDS * (addr / LINE_BYTES) as usize
 }
 
 // The place of the line that a byte address is in.

@@ -1,6 +1,7 @@
 //! What a crash may leave in a pending word, and what each thread has marked of it.
 
-ghost use Rattle.std.specs.Prelude.{◌≡◌, ◌≢◌, ℕ, ◌+◌, ◌-◌, ◌*◌, ◌<◌, ◌≤◌, ◌^◌, List, [], ◌∷◌, ◌++◌, length, drop, map, true, false, IfOk, OnOk, OnErr, vec_len, vec_capacity};
+ghost use Rattle.std.specs.Prelude.{◌≡◌, ◌≢◌, ℕ, ◌+◌, ◌-◌, ◌*◌, ◌<◌, ◌≤◌, ◌^◌, List, [], ◌∷◌, ◌++◌, length, drop, map, true, false, IfOk, OnOk, OnErr, vec_len, vec_capacity, None, nat_eq};
+ghost use Rattle.indexmap.specs.IndexMap.{get};
 ghost use Rattle.pm_words.specs.declared.pending.Mark.{Mark};
 ghost use Rattle.pm_words.specs.View.{look, lowered, older_at, look_at, room_at, IsSameAt, IsFlushedAt, IsFencedAt, ArePending};
 
@@ -173,6 +174,20 @@ pub fn keep(
             Ok(())
         }
     }
+}
+
+/// Whether one of the 8 words of a line has an entry.
+pub fn has_pending(pending: &IndexMap<usize, Pending>, first: usize) -> bool
+    requires { first < 2 ^ 32 }
+    ensures none { result ≡ false → (k : ℕ) → first ≤ k → k < first + 8 → get nat_eq pending.now k ≡ None }
+    ensures some { ((k : ℕ) → first ≤ k → k < first + 8 → get nat_eq pending.now k ≡ None) → result ≡ false }
+{
+    for index in first..first + 8 {
+        if pending.contains_key(&index) {
+            return true;
+        }
+    }
+    false
 }
 
 // Makes room for a mark of the word at `index`.

@@ -1,6 +1,10 @@
 -- The words of an image from its bytes.
-use Rattle.std.proofs.Common.{◌≡◌, ◌≢◌, ℕ, ◌*◌, ◌/◌, ◌<◌, List, length, drop, Result, Ok, Err, inl, inr, arith}
-use Rattle.std.proofs.lemmas.List.FromFn.{fill_by_all}
+use Rattle.std.proofs.Common.{◌≡◌, ◌≢◌, ℕ, ◌*◌, ◌/◌, List, length, drop, Result, Ok, Err, IfOk, inl, inr, ap, ◌∙◌, arith}
+use Rattle.std.proofs.lemmas.List.FromFn.{fill_by_all, length-range_with_len}
+use Rattle.std.proofs.lemmas.List.{length-map}
+use Rattle.std.specs.List.{range_with_len}
+use Rattle.pm_words.specs.Memory.{HasPages}
+use Rattle.pm_words.proofs.WordLemmas.{has_pages}
 use Rattle.byteorder.specs.Endian.{little_number, IsRead}
 use Rattle.tr_outside.specs.declared.image_fault.ImageFault.{ImageFault}
 use Rattle.tr_outside.specs.declared.image_fault.ImageFault.TheVariants as fault
@@ -19,3 +23,14 @@ no_read_fault bytes (Err (fault.NotWhole len)) answer e = cc
 no_read_fault bytes (Err fault.NoMemory) answer e = cc
 no_read_fault bytes (Err fault.ReadFault) (inl same) e = cc
 no_read_fault bytes (Err fault.ReadFault) (inr none) e = absurd none
+
+-- an image that was read has whole pages
+pub sized : (bytes : List ℕ) (result : Result (List ℕ) ImageFault) → AnswersBytes bytes result → IfOk result (λ words. HasPages (length words))
+sized bytes (Ok words) (is, same) =
+    let len : length words ≡ length bytes / 8 =
+    ap (λ (l : List ℕ). length l) same ∙ length-map (range_with_len 0 (length bytes / 8)) (λ i. little_number 8 (drop (8 * i) bytes)) ∙ length-range_with_len 0 (length bytes / 8) in
+    let least = is.least in
+    let most = is.most in
+    let whole = is.whole in
+    has_pages (length words) (length bytes / 4096) (record { whole = omega (arith, len, whole); least = omega (arith, least); most = omega (arith, most) })
+sized bytes (Err fault) answer = tt

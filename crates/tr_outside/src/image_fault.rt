@@ -2,7 +2,8 @@
 
 use thiserror::Error;
 
-/// Why no image was read. The first of these that holds is answered.
+/// Why no image was read. The first of these that holds is answered, but `NoMemory` as soon as memory
+/// runs out.
 #[derive(Debug, PartialEq, Eq, Drop, Error)]
 pub enum ImageFault {
     /// The source failed.

@@ -1,7 +1,9 @@
 //! An image from its bytes.
 ghost use Rattle.std.specs.Prelude.{◌≡◌, ◌≢◌, ◌≤◌, ◌/◌, ◌%◌, length, IfOk, IfSome, IfNone, Err};
 ghost use Rattle.tr_outside.specs.declared.image_fault.ImageFault.TheVariants as fault;
+ghost use Rattle.pm_words.specs.Memory.{HasPages};
 ghost use Rattle.tr_outside.specs.Causes.{Rose};
+ghost use Rattle.tr_outside.specs.Whole.{ConsumesAtMost};
 ghost use Rattle.tr_outside.specs.ImageRead.{IsLength, IsFaultOf, AnswersBytes, AnswersImage, image_words};
 
 use crate::image_fault::ImageFault;
@@ -20,9 +22,11 @@ const PAGE_BYTES: usize = 4096;
 const WORD_BYTES: usize = 8;
 
 /// Reads an image, each word from 8 bytes, the lowest first: all that the source has left, or one
-/// byte more than the largest image has.
+/// byte more than the largest image has. The image has 64 to 16,384 whole pages of 512 words.
 pub fn read_image<S: Source>(alloc: Global, source: &mut S) -> Result<Image, ImageFault>
     ensures answer { AnswersImage (S.left source.old) (S.left source.new) result }
+    ensures size { IfOk result (λ image. HasPages (length image)) }
+    ensures taken { ConsumesAtMost 67108865 (S.left source.old) (S.left source.new) }
     ensures fault { result ≡ Err fault.ReadFault → Rose (S.faults source.old) (S.faults source.new) }
     ensures later { S.faults source.old ≤ S.faults source.new }
 {
@@ -73,58 +77,4 @@ fn words_of(alloc: Global, bytes: &[u8]) -> Result<Vec<u64>, AllocError>
 }
 
 #[cfg(test)]
-mod tests {
-    use super::*;
-    use crate::memory::MemSource;
-
-    // A source of this many bytes that are 0.
-    fn zeros(alloc: Global, len: usize) -> Result<MemSource, AllocError> {
-        let bytes = vec![in alloc; 0u8; len]?;
-        Ok(MemSource::new(bytes, Vec::new(alloc)))
-    }
-
-    #[test]
-    fn the_least_image_is_read(rt: HostRuntime) -> Result<(), AllocError> {
-        let mut source = zeros(rt.alloc(), 262_144)?;
-        match read_image(rt.alloc(), &mut source) {
-            Ok(image) => assert_eq!(rt; image.words().len(), 32_768),
-            Err(_) => assert!(rt; false),
-        }
-        Ok(())
-    }
-
-    #[test]
-    fn a_byte_less_is_too_short(rt: HostRuntime) -> Result<(), AllocError> {
-        let mut source = zeros(rt.alloc(), 262_143)?;
-        let outcome = read_image(rt.alloc(), &mut source);
-        assert!(rt; matches!(outcome, Err(ImageFault::TooShort(262_143))));
-        Ok(())
-    }
-
-    #[test]
-    fn a_byte_more_is_not_whole(rt: HostRuntime) -> Result<(), AllocError> {
-        let mut source = zeros(rt.alloc(), 262_145)?;
-        let outcome = read_image(rt.alloc(), &mut source);
-        assert!(rt; matches!(outcome, Err(ImageFault::NotWhole(262_145))));
-        Ok(())
-    }
-
-    #[test]
-    fn a_byte_past_the_most_is_too_long(rt: HostRuntime) -> Result<(), AllocError> {
-        let mut source = zeros(rt.alloc(), 67_108_870)?;
-        let outcome = read_image(rt.alloc(), &mut source);
-        assert!(rt; matches!(outcome, Err(ImageFault::TooLong(67_108_865))));
-        Ok(())
-    }
-
-    #[test]
-    fn a_failed_read_is_a_read_fault(rt: HostRuntime) -> Result<(), AllocError> {
-        let mut source = MemSource::new(
-            Vec::new(rt.alloc()),
-            Vec::from_slice(rt.alloc(), &[1u32])?,
-        );
-        let outcome = read_image(rt.alloc(), &mut source);
-        assert!(rt; matches!(outcome, Err(ImageFault::ReadFault)));
-        Ok(())
-    }
-}
+mod tests;

@@ -1,5 +1,3 @@
--- the words of a new image, one more at a time
-mod NewImageLemmas
 -- how a script's place passes lines
 mod PlaceLemmas
 -- a run with one more entry

@@ -251,9 +251,6 @@ quiet_first lines trace pages made least most none = subst (λ (t : List Entry).
   running = before_running lines None 0;
 })
 
-pub holds_pages : (image : List ℕ) (pages : ℕ) → image ≡ new_image pages → 64 ≤ pages → pages ≤ 16384 → HasPages (length image)
-holds_pages image pages is least most = has_pages (length image) pages (record { whole = ap (λ (l : List ℕ). length l) is ∙ length_new_image pages; least = least; most = most })
-
 pub image_is : (words : List Word) (image : List ℕ) (pages : ℕ) → words ≡ all_durable image → image ≡ new_image pages → words ≡ all_durable (new_image (pages_of words))
 image_is words image pages is made = is ∙ ap all_durable made ∙ ap (λ (n : ℕ). all_durable (new_image n)) (sym (pages_in words image pages is made))
 

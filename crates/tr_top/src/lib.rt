@@ -2,7 +2,6 @@
 #![tactic(auto)]
 
 mod log;
-mod new_image;
 mod runner;
 #[cfg(test)]
 mod tests;

@@ -15,9 +15,9 @@ ghost use Rattle.tr_top.specs.Run.{pages_made, world_after, place_after};
 ghost use Rattle.tr_top.specs.Running.{Goes, IsTied, IsSound, Stands, StandsTurned, TurnsTo, AreDue, WhoStays, IsNextLine, Passes, IsCallGiven, IsBefore, IsOfThread};
 
 use crate::log::{Log, Stop};
-use crate::new_image::new_image;
 use bus_machine::Machine;
-use pm_words::{Image, Words};
+use kern_journal::new_image;
+use pm_words::Image;
 use std::alloc::{AllocError, Global};
 use tr_dispatch::{Session, SessionStep};
 use tr_outside::Sink;
@@ -61,7 +61,7 @@ impl<'a> Runner<'a> {
         ensures tied { IfOk result (λ r. IsTied script.now r.machine r.log.trace) }
         ensures stands { IfOk result (λ r. Stands script.now r.log.trace r.running) }
     {
-        let words = Words::of_image(alloc, new_image(alloc, pages)?)?;
+        let words = new_image(alloc, pages)?;
         Ok(Runner {
             alloc,
             script,

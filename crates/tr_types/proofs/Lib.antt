@@ -2,6 +2,8 @@
 pub mod FoldLemmas
 -- laws of the free pages
 pub mod FreePages
+-- in a new image no rule of the kernel fails
+pub mod NewKernel
 -- laws of the machine
 pub mod MachineLemmas
 -- laws of the registers before any thread has opened a key

@@ -1,16 +1,16 @@
 -- The journal as it is read: its pages hold how many pairs are committed, and for each its address and its value. What the
 -- kernel reads is the words with these pairs laid over them.
-use Rattle.std.specs.Prelude.{ℕ, ◌≤◌, ◌==◌, List, map, length, fold, All, if◌then◌else◌}
+use Rattle.std.specs.Prelude.{ℕ, ◌/◌, ◌≤◌, ◌==◌, List, map, length, fold, All, if◌then◌else◌}
 use Rattle.std.specs.List.{range_with_len}
 use Rattle.zo_layout.specs.Layout.{page_at, owner_table, committed_word, pair_address, pair_value, pair_capacity}
 use Rattle.pm_words.specs.Word.{Word}
 use Rattle.pm_words.specs.Memory.{word_at, IsAddress}
 use Rattle.tr_types.specs.KernelView.{pages_of}
 
--- an address of a word of the image, outside the journal's pages: from the journal's first page on, only past its last
-pub record IsHome (words : List Word) (addr : ℕ) : Type 0 where
-  pub inside : IsAddress (length words) addr
-  pub outside : page_at 1 ≤ addr → page_at (owner_table (pages_of words)) ≤ addr
+-- an address of one of `count` words of an image, outside the journal's pages: from the journal's first page on, only past its last
+pub record IsHome (count addr : ℕ) : Type 0 where
+  pub inside : IsAddress count addr
+  pub outside : page_at 1 ≤ addr → page_at (owner_table (count / 512)) ≤ addr
 
 -- how many pairs are committed: what stands in word 0 of the journal
 abbrev pub committed_count : List Word → ℕ
@@ -36,4 +36,4 @@ kernel_word words addr = laid_over (committed words) addr (word_at words addr).p
 -- outside the journal's pages.
 pub record IsReadable (words : List Word) : Type 0 where
   pub room : committed_count words ≤ pair_capacity (pages_of words)
-  pub homes : All (λ p. IsHome words p.0) (committed words)
+  pub homes : All (λ p. IsHome (length words) p.0) (committed words)

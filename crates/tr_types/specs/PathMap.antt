@@ -1,10 +1,10 @@
 -- The path map: which coffer a path lies in, what lies directly under a coffer, and which words of the tables change with it.
-use Rattle.std.specs.Prelude.{◌≡◌, ℕ, ◌+◌, ◌-◌, ◌*◌, ◌/◌, ◌<◌, List, [], ◌∷◌, ◌++◌, length, map, take, drop, filter, fold, find, Bool, true, false, not, Option, Some, None, MatchOption, replicate, if◌then◌else◌, ◌==◌, ◌&&◌, nat_lt}
+use Rattle.std.specs.Prelude.{ℕ, ◌*◌, List, [], ◌∷◌, ◌++◌, length, map, take, drop, filter, fold, find, Bool, false, not, Option, Some, None, replicate, if◌then◌else◌, ◌==◌, nat_lt}
 use Rattle.std.specs.List.{range_with_len, enumerate_from}
 use Rattle.std.specs.Int.{w64, from_le_bytes}
-use Rattle.zo_layout.specs.Layout.{coffer_entry, coffer_state, coffer_uid, coffer_gid, coffer_mode, coffer_root, coffer_next, path_bucket, bucket_of, word_of}
+use Rattle.zo_layout.specs.Layout.{coffer_entry, coffer_state, coffer_uid, coffer_root, coffer_next, path_bucket, bucket_of, word_of}
 use Rattle.tr_types.specs.Paths.{same_text, begins_with, lies_under}
-use Rattle.tr_types.specs.KernelTables.{Coffer, coffers_in, ids_in, stands_in, path_in, chain_in, all_ids}
+use Rattle.tr_types.specs.KernelTables.{Coffer, stands_in, path_in, chain_in, all_ids}
 use Rattle.tr_types.specs.declared.permission.Perm.{Perm}
 
 -- the coffer with the longer path
@@ -78,10 +78,14 @@ abbrev pub with_pair : (ℕ × ℕ) → List (ℕ × ℕ) → List (ℕ × ℕ)
 with_pair p [] = p ∷ []
 with_pair p (q ∷ qs) = if nat_lt p.0 q.0 then p ∷ q ∷ qs else q ∷ with_pair p qs
 
+-- the 64 words of an entry in which no coffer stands
+unfoldable pub no_words : List ℕ
+no_words = replicate 64 0
+
 -- A coffer that goes leaves the chain, and all words of its entry become 0.
 abbrev pub dropped_pairs : ℕ → (ℕ → ℕ) → ℕ → List (ℕ × ℕ)
 dropped_pairs pages at id =
-    with_pair (leading_word pages at id, at (coffer_next (coffer_entry pages id))) (from_address (coffer_entry pages id) (replicate 64 0))
+    with_pair (leading_word pages at id, at (coffer_next (coffer_entry pages id))) (from_address (coffer_entry pages id) no_words)
 
 -- the words of a permission: 1 to 3 of the entry
 abbrev pub perm_pairs : ℕ → ℕ → Perm → List (ℕ × ℕ)

@@ -1,10 +1,7 @@
-use Rattle.std.proofs.Common.{◌≡◌, ◌<◌, length, IfOk, ℕ, ◌+◌, ◌-◌, ◌*◌, ◌≤◌, map}
+use Rattle.std.proofs.Common.{◌≡◌, map}
 use Rattle.std.specs.List.{range_with_len}
-use Rattle.zo_layout.specs.Layout as layout
-use Rattle.pm_words.specs.Memory.{IsAddress, HasPages}
-use Rattle.tr_types.specs.KernelView.{pages_of}
-use Rattle.tr_types.specs.Journal as spec
+use Rattle.kern_journal.specs.Journal.{pair_at}
 use Rattle.kern_journal.proofs.journal.committed.Given as goal
 
 abbrev pub invariant-loop-i : goal.invariant-loop-i
-invariant-loop-i l = (l.pairs.items ≡ map (spec.pair_at l.words) (range_with_len 0 l.i))
+invariant-loop-i l = l.pairs.items ≡ map (pair_at l.words) (range_with_len 0 l.i)

@@ -1,4 +1,4 @@
-use Rattle.std.proofs.Common.{◌≡◌, ◌/◌, length, List, sym, ap, ◌∙◌, arith}
+use Rattle.std.proofs.Common.{◌∙◌}
 use Rattle.std.proofs.lemmas.List.{with_items_is}
 use Rattle.tr_outside.proofs.ImageWords.{words_read}
 use Rattle.tr_outside.proofs.image_read.words_of.Goals as goal

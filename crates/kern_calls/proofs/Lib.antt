@@ -1,0 +1,2 @@
+-- what stands once the committed pairs are finished
+pub mod MountLemmas

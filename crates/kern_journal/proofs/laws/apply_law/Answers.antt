@@ -1,0 +1,5 @@
+use Rattle.kern_journal.proofs.FinishLemmas.{applied}
+use Rattle.kern_journal.proofs.laws.apply_law.Goals as goal
+
+pub returns : goal.returns
+returns c = applied

@@ -1,0 +1,5 @@
+use Rattle.kern_journal.proofs.CrashLemmas.{crash_anywhere}
+use Rattle.kern_journal.proofs.laws.crash_law.Goals as goal
+
+pub returns : goal.returns
+returns c = crash_anywhere

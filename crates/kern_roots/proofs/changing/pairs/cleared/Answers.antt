@@ -1,0 +1,6 @@
+use Rattle.tr_types.specs.PathMap as map
+use Rattle.kern_roots.proofs.changing.pairs.cleared.Goals as goal
+
+pub returns : goal.returns
+unfolding map.no_words
+returns c = c.from_address.ensures

@@ -1,0 +1,11 @@
+use Rattle.std.proofs.Common.{◌≡◌, find, not}
+use Rattle.tr_types.specs.KernelView.{pages_of}
+use Rattle.tr_types.specs.Journal.{kernel_word}
+use Rattle.tr_types.specs.KernelTables.{stands_in}
+use Rattle.tr_types.specs.PathMap as map
+use Rattle.kern_roots.proofs.ChangingSearch.{ids_from}
+use Rattle.kern_roots.proofs.changing.search.free_id.Given as goal
+
+abbrev pub invariant-loop-id : goal.invariant-loop-id
+invariant-loop-id l =
+    find (λ id. not (stands_in (pages_of l.words) (kernel_word l.words) id)) (ids_from l.id) ≡ map.free_id (pages_of l.words) (kernel_word l.words)

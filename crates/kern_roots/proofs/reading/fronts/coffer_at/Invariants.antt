@@ -1,0 +1,8 @@
+use Rattle.std.proofs.Common.{◌-◌}
+use Rattle.tr_types.specs.KernelView.{pages_of}
+use Rattle.tr_types.specs.Journal.{kernel_word}
+use Rattle.kern_roots.proofs.ReadingChains.{IsWalk}
+use Rattle.kern_roots.proofs.reading.fronts.coffer_at.Given as goal
+
+abbrev pub invariant-loop-step : goal.invariant-loop-step
+invariant-loop-step l = IsWalk (pages_of l.words) (kernel_word l.words) l.path (257 - l._step) l.next
