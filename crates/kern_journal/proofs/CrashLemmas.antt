@@ -10,7 +10,7 @@ use Rattle.zo_layout.specs.Layout.{pair_address, pair_value, committed_word}
 use Rattle.pm_words.specs.Word.{Word, crash_list}
 use Rattle.pm_words.specs.Memory.{word_at, IsAddress, HasPages}
 use Rattle.pm_words.specs.Crash.{MayLeave}
-use Rattle.kern_journal.specs.declared.inner.Inner.{Inner}
+use Rattle.tr_types.specs.declared.inner.Inner.{Inner}
 use Rattle.kern_journal.specs.Inner.{made, made_all, phase}
 use Rattle.kern_journal.specs.Journal.{IsHome, IsReadable, committed, committed_count, pair_at, journal_words, count_pair, finish_events, finish_any, journal_events, redo_events, laid_over}
 use Rattle.kern_journal.specs.Law.{IsDurable, IsUnnamed, AreDone, IsReady, IsSettled, MayCome, IsAllOrNone, IsRedone, CrashLaw, CutLaw}

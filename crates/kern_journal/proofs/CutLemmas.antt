@@ -9,7 +9,7 @@ use Rattle.zo_layout.specs.Layout.{pair_address, pair_value, committed_word}
 use Rattle.pm_words.specs.Word.{Word, crash_list}
 use Rattle.pm_words.specs.Memory.{word_at, IsAddress}
 use Rattle.pm_words.specs.Crash.{MayLeave}
-use Rattle.kern_journal.specs.declared.inner.Inner.{Inner}
+use Rattle.tr_types.specs.declared.inner.Inner.{Inner}
 use Rattle.kern_journal.specs.Inner.{made, made_all, phase}
 use Rattle.kern_journal.specs.Journal.{IsHome, committed, pair_at, laid_over, journal_words, count_pair, finish_events}
 use Rattle.kern_journal.specs.Law.{IsDurable, IsUnnamed, AreDone}

@@ -8,7 +8,7 @@ use Rattle.std.proofs.lemmas.List.Sums.{fold-append}
 use Rattle.zo_layout.specs.Layout.{pair_capacity, committed_word}
 use Rattle.pm_words.specs.Word.{Word}
 use Rattle.pm_words.specs.Memory.{word_at, IsAddress, HasPages}
-use Rattle.kern_journal.specs.declared.inner.Inner.{Inner}
+use Rattle.tr_types.specs.declared.inner.Inner.{Inner}
 use Rattle.kern_journal.specs.Inner.{made, made_all, phase}
 use Rattle.kern_journal.specs.Journal.{IsHome, IsReadable, committed, committed_count, pair_at, laid_over, journal_words, count_pair, finish_events, finish_any, redo_events}
 use Rattle.kern_journal.specs.Law.{IsDurable, IsUnnamed, AreDone, IsReady, IsApplied, IsFinished, ApplyLaw, ViewLaw, IdleLaw}

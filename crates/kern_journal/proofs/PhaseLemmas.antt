@@ -7,8 +7,8 @@ use Rattle.std.proofs.lemmas.List.Sums.{fold-append}
 use Rattle.zo_layout.specs.Layout.{pair_address, pair_value, pair_capacity, committed_word, journal_pages}
 use Rattle.pm_words.specs.Word.{Word, stored, crash_list}
 use Rattle.pm_words.specs.Memory.{word_at, IsAddress}
-use Rattle.kern_journal.specs.declared.inner.Inner.{Inner}
-use Rattle.kern_journal.specs.declared.inner.Inner.TheVariants.{Store, Flush, Fence}
+use Rattle.tr_types.specs.declared.inner.Inner.{Inner}
+use Rattle.tr_types.specs.declared.inner.Inner.TheVariants.{Store, Flush, Fence}
 use Rattle.kern_journal.specs.Inner.{made_all, lines_of, stores_of, flushes_at, phase}
 use Rattle.kern_journal.specs.Journal.{IsHome, laid_over, journal_words, count_pair}
 use Rattle.kern_journal.specs.Law.{IsDurable, IsUnnamed, AreDone}

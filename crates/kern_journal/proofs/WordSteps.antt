@@ -9,8 +9,8 @@ use Rattle.std.proofs.lemmas.List.FromFn.{get_or-enumerate_from, length-enumerat
 use Rattle.pm_words.specs.Marks.{with_first, trimmed, written, mark_at, put_mark}
 use Rattle.pm_words.specs.Word.{Word, settled, stored, flushed, fenced, crash_list}
 use Rattle.pm_words.specs.Memory.{word_at, each_word}
-use Rattle.kern_journal.specs.declared.inner.Inner.{Inner}
-use Rattle.kern_journal.specs.declared.inner.Inner.TheVariants.{Store, Flush, Fence}
+use Rattle.tr_types.specs.declared.inner.Inner.{Inner}
+use Rattle.tr_types.specs.declared.inner.Inner.TheVariants.{Store, Flush, Fence}
 use Rattle.kern_journal.specs.Inner.{kernel_thread, made, made_all, flushes_at}
 
 -- an event comes to the word at an address

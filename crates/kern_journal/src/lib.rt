@@ -14,7 +14,7 @@ mod laws;
 mod lines;
 
 pub use image::new_image;
-pub use inner::Inner;
+pub use inner::make_all;
 pub use journal::{
     JournalFault, apply, apply_first, capacity, committed, committed_count, kernel_word, redo,
 };

@@ -11,3 +11,5 @@ pub mod Registers
 pub mod StepLemmas
 -- bits as a set has them
 mod BitLemmas
+-- the rows where the root coffer is the only one
+pub mod RootLemmas

@@ -1,11 +1,15 @@
 -- How the kernel's calls are answered where the root coffer, whose number is 1, is the only one: what the rows say of it.
-use Rattle.std.specs.Prelude.{◌≡◌, ◌⊎◌, ℕ, ◌<◌, ◌≤◌, List, [], ◌∷◌, length, take, map, filter, Bool, true, false, Option, Some, None, ◌==◌, ◌&&◌, ◌||◌}
+-- These words follow from the rows, and nothing else is defined by them.
+use Rattle.std.specs.Prelude.{◌≡◌, ◌⊎◌, ℕ, ◌<◌, ◌≤◌, List, [], ◌∷◌, length, take, map, filter, Bool, true, false, Option, Some, None, ◌==◌, ◌&&◌, ◌||◌, codes}
 use Rattle.std.specs.List.{range_with_len}
 use Rattle.pm_words.specs.Word.{Word}
 use Rattle.zo_layout.specs.Layout.{root_control, root_page}
 use Rattle.tr_types.specs.Commands.{IsPath}
 use Rattle.tr_types.specs.KernelView.{pages_of, owner_of, free_pages}
 use Rattle.tr_types.specs.Rights.{key_for, those_against, holds_itself, allows_writing, is_row_of, IsLeastOf}
+use Rattle.tr_types.specs.Journal.{committed_count}
+use Rattle.tr_types.specs.Kernel.{coffers}
+use Rattle.tr_types.specs.KernelTables.{Coffer}
 use Rattle.tr_types.specs.Machine.{Bus}
 use Rattle.tr_types.specs.declared.kernel_call.Kcall.{Kcall}
 use Rattle.tr_types.specs.declared.kernel_call.Kcall.TheVariants.{Find, Map, Unmap, Enlarge}
@@ -82,3 +86,12 @@ RootAnswers bus thread (Map path right exclusive) answer = IsPath path × IsGive
 RootAnswers bus thread (Unmap id) answer = UnmapAnswers bus thread id answer
 RootAnswers bus thread (Enlarge id count) answer = EnlargeAnswers bus thread id count answer
 RootAnswers bus thread call answer = ⊥
+
+-- The root coffer as it stands in a new image, and no other; nothing is committed.
+
+abbrev pub root_coffer : ℕ → Coffer
+root_coffer pages = record { id = 1; path = codes "/"; perm = root_perm; state = 1; kind = 0; control = root_control pages; root = root_page pages }
+
+pub record IsRootAlone (words : List Word) : Type 0 where
+  pub idle : committed_count words ≡ 0
+  pub alone : coffers words ≡ root_coffer (pages_of words) ∷ []
