@@ -2,7 +2,7 @@
 use Rattle.std.proofs.Common.{◌≡◌, ◌≢◌, ◌⊎◌, inl, inr, ℕ, ◌+◌, ◌*◌, ◌/◌, ◌%◌, ◌^◌, ◌<◌, ◌≤◌, zero, suc, Bool, true, false, not, cond, ◌==◌, ◌&&◌, ◌||◌, if◌then◌else◌, List, [], ◌∷◌, ◌++◌, length, map, filter, take, nat_eq, refl, sym, ap, subst, ◌∙◌, arith, All, Contains, eq-eqb, ne_eqb}
 use Rattle.std.specs.Prelude.{Option, Some, None, is_some, fold, codes, nat_lt, nat_le}
 use Rattle.std.specs.List.{range_with_len, list_any, list_all, starts_with}
-use Rattle.std.proofs.lemmas.Bool.{cond-true, cond-false, cases_eq, cases_lt, le-leb, ltb-true, false_from_ne_true}
+use Rattle.std.proofs.lemmas.Bool.{cond-true, cond-false, cases_eq, cases_lt, cond_both, le-leb, ltb-true, ltb-false, false_from_ne_true}
 use Rattle.std.proofs.lemmas.List.Elements.{All-head, All-tail, All-weaker}
 use Rattle.std.proofs.lemmas.Slice.Eq.{bytes_eq-Decides}
 use Rattle.pm_words.specs.Word.{Word}
@@ -16,8 +16,20 @@ use Rattle.tr_types.specs.KernelView.{pages_of, owner_of, free_pages}
 use Rattle.tr_types.specs.KernelTables.{Coffer, pages_owned, pages_free}
 use Rattle.tr_types.specs.Kernel.{coffers, coffer_pages, spare_pages, kernel_owner}
 use Rattle.tr_types.specs.PathMap.{coffer_of_path, longest}
-use Rattle.tr_types.specs.KernelCalls.{located, or_none, is_bad_look, found_for}
-use Rattle.tr_types.specs.RootCoffer.{IsRootAlone, root_coffer, root_perm, found_at, pages_held, root_mapped}
+use Rattle.tr_types.specs.KernelCalls.{Callers, Row, located, or_none, is_bad_look, found_for, row_of_maps, refused_where, first_due, unless_refused, row_answer, row_events, zero_events, stored_events, find_row, map_row, map_row_for, mapped_as, in_use, least_of, key_or_none, answer_by, cred_of, answer_of, words_after, holders_after}
+use Rattle.tr_types.specs.Inner.{made_all}
+use Rattle.tr_types.specs.declared.inner.Inner.{Inner}
+use Rattle.tr_types.specs.declared.kernel_call.FoundAt.{FoundAt}
+use Rattle.tr_types.specs.declared.kernel_call.Holder.{Holder}
+use Rattle.tr_types.specs.declared.kernel_call.KernAnswer.{KernAnswer}
+use Rattle.tr_types.specs.declared.kernel_call.KernAnswer.TheVariants as kern
+use Rattle.tr_types.specs.declared.kernel_call.Kcall.TheVariants as call
+use Rattle.tr_types.specs.Permission.{refuses}
+use Rattle.tr_types.specs.Rights.{has_bit, those_against, key_for, with_row, IsLeastOf}
+use Rattle.tr_types.specs.Machine.{Bus, callers_of}
+use Rattle.tr_types.specs.RootCoffer.{IsRootAlone, root_coffer, root_perm, found_at, pages_held, root_mapped, IsGiven, MapAnswers, root_held}
+use Rattle.tr_types.specs.declared.permission.Cred.{Cred}
+use Rattle.tr_types.specs.declared.permission.Right.{Right}
 
 -- What the kernel reads where nothing is committed.
 
@@ -121,3 +133,158 @@ pub found_root : (words : List Word) (path : List ℕ) → IsRootAlone words →
 found_root words path alone is =
     ap (λ (c : Coffer). record { id = c.id; exact = same_text c.path path; path_len = length c.path; perm = c.perm }) (located_root words path alone)
     ∙ ap (λ (exact : Bool). record { id = 1; exact = exact; path_len = 1; perm = root_perm }) (exact_is path is)
+
+-- The rows.
+
+-- a row with no pages and no pairs leaves the memory, refused or not
+same_both : {X : Type 0} (b : Bool) (x : X) → cond b x x ≡ x
+same_both true x = refl
+same_both false x = refl
+
+nothing : (words : List Word) (row : Row) → row.granted ≡ [] → row.pairs ≡ [] → made_all (unless_refused row [] (row_events row)) words ≡ words
+nothing words row none no_pairs =
+    ap (λ (pages : List ℕ). made_all (unless_refused row [] (zero_events pages ++ stored_events row.pairs)) words) none
+    ∙ ap (λ (pairs : List (ℕ × ℕ)). made_all (unless_refused row [] (stored_events pairs)) words) no_pairs
+    ∙ ap (λ (es : List Inner). made_all es words) (same_both (is_some (first_due row.refusals)) [])
+
+module _ (callers : Callers) (words : List Word) (holders : List Holder) (thread now : ℕ) (alone : IsRootAlone words) where
+  -- Find
+  find_row_is : (path : List ℕ) → IsPath path → find_row words holders path None ≡ row_of_maps (None ∷ []) (kern.Found (found_at path) None) holders
+  find_row_is path is =
+      ap (λ (b : Bool). row_of_maps (refused_where (b || false) kern.BadPath ∷ []) (kern.Found (found_for words path) None) holders) (good_look path is)
+      ∙ ap (λ (f : FoundAt). row_of_maps (None ∷ []) (kern.Found f None) holders) (found_root words path alone is)
+
+  pub find_answer : (path : List ℕ) → IsPath path → answer_of callers words holders thread now (call.Find path None) ≡ kern.Found (found_at path) None
+  find_answer path is = ap row_answer (find_row_is path is)
+
+  pub find_words : (path : List ℕ) (also : Option (List ℕ)) → words_after callers words holders thread now (call.Find path also) ≡ words
+  find_words path also = nothing words (find_row words holders path also) refl refl
+
+  pub find_held : (path : List ℕ) (also : Option (List ℕ)) → holders_after callers words holders thread now (call.Find path also) ≡ holders
+  find_held path also = same_both (is_some (first_due (find_row words holders path also).refusals)) holders
+
+-- Map
+
+digit_is : (a b : Bool) → (if a then 438 / 64 % 8 else (if b then 438 / 8 % 8 else 438 % 8)) ≡ 6
+digit_is true b = refl
+digit_is false true = refl
+digit_is false false = refl
+
+nobody_refused : (b : Bool) → (b && false) ≡ false
+nobody_refused true = refl
+nobody_refused false = refl
+
+abbrev refused_by : Cred → ℕ → ℕ → Bool
+refused_by cred digit bits =
+    not (cred.uid == 0) && ((has_bit bits 0 && not (has_bit digit 2)) || (has_bit bits 1 && not (has_bit digit 1)) || (has_bit bits 2 && not (cred.uid == 0)))
+
+pub root_refuses_none : (cred : Cred) (right : Right) → IsGiven right → refuses root_perm cred right ≡ false
+root_refuses_none cred right given = ap (λ (digit : ℕ). refused_by cred digit right.0) (digit_is (cred.uid == 0) (cred.gid == 0)) ∙ by given
+  where
+    by : IsGiven right → refused_by cred 6 right.0 ≡ false
+    by (inl one) = ap (refused_by cred 6) one ∙ nobody_refused (not (cred.uid == 0))
+    by (inr two) = ap (refused_by cred 6) two ∙ nobody_refused (not (cred.uid == 0))
+
+some_length : (u : ℕ) (us : List ℕ) → (length (u ∷ us) == 0) ≡ false
+some_length u us = ne_eqb (length (u ∷ us)) 0 (λ e. omega (arith, e))
+
+-- the least of some threads
+abbrev lesser : ℕ → ℕ → ℕ
+lesser least u = if nat_lt u least then u else least
+
+lesser_below : (least u : ℕ) → (lesser least u ≤ least) × (lesser least u ≤ u)
+lesser_below least u = cond_both (nat_lt u least) u least (λ (n : ℕ). (n ≤ least) × (n ≤ u)) (λ t. let less = ltb-true u least t in (omega (arith, less), omega arith)) (λ f. let more = ltb-false u least f in (omega arith, omega (arith, more)))
+
+lesser_one : (least u : ℕ) → (lesser least u ≡ least) ⊎ (lesser least u ≡ u)
+lesser_one least u = cond_both (nat_lt u least) u least (λ (n : ℕ). (n ≡ least) ⊎ (n ≡ u)) (λ t. inr refl) (λ f. inl refl)
+
+least_below : (t : ℕ) (ts : List ℕ) → fold lesser t ts ≤ t
+least_below t [] = omega arith
+least_below t (u ∷ us) = let rest = least_below (lesser t u) us in let here = (lesser_below t u).0 in omega (arith, rest, here)
+
+least_all : (t : ℕ) (ts : List ℕ) (x : ℕ) → Contains ts x → fold lesser t ts ≤ x
+least_all t [] x (k, lt, at) = absurd (omega arith)
+least_all t (u ∷ us) x (zero, lt, at) = let rest = least_below (lesser t u) us in let here = (lesser_below t u).1 in subst (λ (n : ℕ). fold lesser t (u ∷ us) ≤ n) at (omega (arith, rest, here))
+least_all t (u ∷ us) x (suc k, lt, at) = least_all (lesser t u) us x (k, omega arith, at)
+
+least_among : (t : ℕ) (ts : List ℕ) → Contains (t ∷ ts) (fold lesser t ts)
+least_among t [] = (zero, omega arith, refl)
+least_among t (u ∷ us) = by (least_among (lesser t u) us)
+  where
+    by : Contains (lesser t u ∷ us) (fold lesser (lesser t u) us) → Contains (t ∷ u ∷ us) (fold lesser (lesser t u) us)
+    by (zero, lt, at) = elim (lesser_one t u) [
+      | inl e ↦ (zero, omega arith, sym e ∙ at)
+      | inr e ↦ (suc zero, omega arith, sym e ∙ at)
+    ]
+    by (suc k, lt, at) = (suc (suc k), omega arith, at)
+
+pub least_is : (t : ℕ) (ts : List ℕ) → IsLeastOf (t ∷ ts) (least_of (t ∷ ts))
+least_is t ts = record { among = least_among t ts; least = each }
+  where
+    each : (x : ℕ) → Contains (t ∷ ts) x → least_of (t ∷ ts) ≤ x
+    each x (zero, lt, at) = subst (λ (n : ℕ). least_of (t ∷ ts) ≤ n) at (least_below t ts)
+    each x (suc k, lt, at) = least_all t ts x (k, omega arith, at)
+
+-- what a Map of the root coffer answers, by the threads against it and the key for it
+abbrev map_refusals : List ℕ → Option ℕ → List (Option KernAnswer)
+map_refusals threads key = None ∷ None ∷ None ∷ refused_where (not (length threads == 0)) (kern.InUse (least_of threads) 1 1) ∷ refused_where (not (is_some key)) (kern.NoKey 1 1) ∷ []
+
+abbrev map_answer : List Word → List ℕ → Option ℕ → KernAnswer
+map_answer words threads key = answer_by (first_due (map_refusals threads key)) (kern.Mapped (root_mapped words (key_or_none key)))
+
+map_answer_in_use : (words : List Word) (u : ℕ) (us : List ℕ) (key : Option ℕ) → map_answer words (u ∷ us) key ≡ kern.InUse (least_of (u ∷ us)) 1 1
+map_answer_in_use words u us key =
+    ap (λ (b : Bool). answer_by (first_due (None ∷ None ∷ None ∷ refused_where (not b) (kern.InUse (least_of (u ∷ us)) 1 1) ∷ refused_where (not (is_some key)) (kern.NoKey 1 1) ∷ [])) (kern.Mapped (root_mapped words (key_or_none key)))) (some_length u us)
+
+module _ (bus : Bus) (thread now : ℕ) (alone : IsRootAlone bus.words) (path : List ℕ) (right : Right) (exclusive : Bool) (is : IsPath path) (given : IsGiven right) where
+  abbrev against : List ℕ
+  against = those_against thread 1 exclusive bus.holders
+
+  abbrev key : Option ℕ
+  key = key_for bus.threads bus.holders thread 1
+
+  abbrev row : Row
+  row = record {
+    refusals = map_refusals against key;
+    answer = kern.Mapped (root_mapped bus.words (key_or_none key));
+    granted = [];
+    pairs = [];
+    holders = with_row (record { thread = thread; id = 1; key = key_or_none key; right = right; exclusive = exclusive }) bus.holders;
+  }
+
+  map_row_is : map_row (callers_of bus) bus.words bus.holders thread path right exclusive ≡ row
+  map_row_is =
+      ap (map_row_for (callers_of bus) bus.words bus.holders thread path right exclusive) (located_root bus.words path alone)
+      ∙ ap (λ (b : Bool). record row { refusals = refused_where b kern.BadPath ∷ refused_where (refuses root_perm (cred_of (callers_of bus) thread) right) (kern.Denied right 1 1) ∷ None ∷ in_use (root_coffer (pages_of bus.words)) against ∷ refused_where (not (is_some key)) (kern.NoKey 1 1) ∷ []; answer = kern.Mapped (mapped_as bus.words (root_coffer (pages_of bus.words)) (key_or_none key)) }) (good_look path is)
+      ∙ ap (λ (b : Bool). record row { refusals = None ∷ refused_where b (kern.Denied right 1 1) ∷ None ∷ in_use (root_coffer (pages_of bus.words)) against ∷ refused_where (not (is_some key)) (kern.NoKey 1 1) ∷ []; answer = kern.Mapped (mapped_as bus.words (root_coffer (pages_of bus.words)) (key_or_none key)) }) (root_refuses_none (cred_of (callers_of bus) thread) right given)
+      ∙ ap (λ (n : ℕ). record row { answer = kern.Mapped (record (root_mapped bus.words (key_or_none key)) { pages = n }) }) (idle_pages bus.words 1 alone.idle)
+
+  pub map_answer_is : answer_of (callers_of bus) bus.words bus.holders thread now (call.Map path right exclusive) ≡ map_answer bus.words against key
+  map_answer_is = ap row_answer map_row_is
+
+  answers_by : (threads : List ℕ) (k : Option ℕ) → against ≡ threads → key ≡ k → MapAnswers bus thread exclusive (map_answer bus.words threads k)
+  answers_by [] (Some n) t e = (t, e, refl)
+  answers_by [] None t e = (t, e, refl, refl)
+  answers_by (u ∷ us) k t e =
+      subst (MapAnswers bus thread exclusive) (sym (map_answer_in_use bus.words u us k)) (subst (λ (l : List ℕ). IsLeastOf l (least_of (u ∷ us))) (sym t) (least_is u us), refl, refl)
+
+  pub map_answers : MapAnswers bus thread exclusive (answer_of (callers_of bus) bus.words bus.holders thread now (call.Map path right exclusive))
+  map_answers = subst (MapAnswers bus thread exclusive) (sym map_answer_is) (answers_by against key refl refl)
+
+  pub map_words : words_after (callers_of bus) bus.words bus.holders thread now (call.Map path right exclusive) ≡ bus.words
+  map_words = nothing bus.words (map_row (callers_of bus) bus.words bus.holders thread path right exclusive) refl refl
+
+  held_by : (threads : List ℕ) (k : Option ℕ)
+      → cond (is_some (first_due (map_refusals threads k))) bus.holders (with_row (record { thread = thread; id = 1; key = key_or_none k; right = right; exclusive = exclusive }) bus.holders)
+      ≡ root_held thread (call.Map path right exclusive) (map_answer bus.words threads k) bus.holders
+  held_by [] (Some n) = refl
+  held_by [] None = refl
+  held_by (u ∷ us) k =
+      ap (λ (b : Bool). cond (is_some (first_due (None ∷ None ∷ None ∷ refused_where (not b) (kern.InUse (least_of (u ∷ us)) 1 1) ∷ refused_where (not (is_some k)) (kern.NoKey 1 1) ∷ []))) bus.holders (with_row (record { thread = thread; id = 1; key = key_or_none k; right = right; exclusive = exclusive }) bus.holders)) (some_length u us)
+      ∙ sym (ap (λ (a : KernAnswer). root_held thread (call.Map path right exclusive) a bus.holders) (map_answer_in_use bus.words u us k))
+
+  pub map_held : holders_after (callers_of bus) bus.words bus.holders thread now (call.Map path right exclusive)
+      ≡ root_held thread (call.Map path right exclusive) (answer_of (callers_of bus) bus.words bus.holders thread now (call.Map path right exclusive)) bus.holders
+  map_held =
+      ap (λ (r : Row). unless_refused r bus.holders r.holders) map_row_is ∙ held_by against key
+      ∙ sym (ap (λ (a : KernAnswer). root_held thread (call.Map path right exclusive) a bus.holders) map_answer_is)

@@ -244,17 +244,20 @@ mapped_as words c key = record {
   perm = c.perm;
 }
 
-abbrev pub map_row : Callers → List Word → List Holder → ℕ → List ℕ → Right → Bool → Row
-map_row callers words holders thread path right exclusive =
+abbrev pub map_row_for : Callers → List Word → List Holder → ℕ → List ℕ → Right → Bool → Coffer → Row
+map_row_for callers words holders thread path right exclusive c =
     row_of_maps
-    (refused_where (is_bad_look path) answer.BadPath
-    ∷ refused_where (refuses (located words path).perm (cred_of callers thread) right) (answer.Denied right (located words path).id (length (located words path).path))
-    ∷ refused_where ((located words path).state == 2) (answer.Quarantined (located words path).id (length (located words path).path))
-    ∷ in_use (located words path) (those_against thread (located words path).id exclusive holders)
-    ∷ refused_where (not (is_some (key_for callers.threads holders thread (located words path).id))) (answer.NoKey (located words path).id (length (located words path).path))
-    ∷ [])
-    (answer.Mapped (mapped_as words (located words path) (key_or_none (key_for callers.threads holders thread (located words path).id))))
-    (with_row (record { thread = thread; id = (located words path).id; key = key_or_none (key_for callers.threads holders thread (located words path).id); right = right; exclusive = exclusive }) holders)
+      (refused_where (is_bad_look path) answer.BadPath
+      ∷ refused_where (refuses c.perm (cred_of callers thread) right) (answer.Denied right c.id (length c.path))
+      ∷ refused_where (c.state == 2) (answer.Quarantined c.id (length c.path))
+      ∷ in_use c (those_against thread c.id exclusive holders)
+      ∷ refused_where (not (is_some (key_for callers.threads holders thread c.id))) (answer.NoKey c.id (length c.path))
+      ∷ [])
+      (answer.Mapped (mapped_as words c (key_or_none (key_for callers.threads holders thread c.id))))
+      (with_row (record { thread = thread; id = c.id; key = key_or_none (key_for callers.threads holders thread c.id); right = right; exclusive = exclusive }) holders)
+
+abbrev pub map_row : Callers → List Word → List Holder → ℕ → List ℕ → Right → Bool → Row
+map_row callers words holders thread path right exclusive = map_row_for callers words holders thread path right exclusive (located words path)
 
 -- Unmap: the caller's map of a coffer ends.
 

@@ -6,7 +6,7 @@ use Rattle.pm_words.specs.Word.{Word}
 use Rattle.zo_layout.specs.Layout.{root_control, root_page}
 use Rattle.tr_types.specs.Commands.{IsPath}
 use Rattle.tr_types.specs.KernelView.{pages_of, owner_of, free_pages}
-use Rattle.tr_types.specs.Rights.{key_for, those_against, holds_itself, allows_writing, is_row_of, IsLeastOf}
+use Rattle.tr_types.specs.Rights.{key_for, those_against, holds_itself, allows_writing, is_row_of, with_row, without_row, IsLeastOf}
 use Rattle.tr_types.specs.Journal.{committed_count}
 use Rattle.tr_types.specs.Kernel.{coffers}
 use Rattle.tr_types.specs.KernelTables.{Coffer}
@@ -86,6 +86,12 @@ RootAnswers bus thread (Map path right exclusive) answer = IsPath path × IsGive
 RootAnswers bus thread (Unmap id) answer = UnmapAnswers bus thread id answer
 RootAnswers bus thread (Enlarge id count) answer = EnlargeAnswers bus thread id count answer
 RootAnswers bus thread call answer = ⊥
+
+-- who holds which coffer after a call that was answered so
+abbrev pub root_held : ℕ → Kcall → KernAnswer → List Holder → List Holder
+root_held thread (Map path right exclusive) (IsMapped m) holders = with_row (record { thread = thread; id = m.id; key = m.key; right = right; exclusive = exclusive }) holders
+root_held thread (Unmap id) IsDone holders = without_row thread id holders
+root_held thread kcall answer holders = holders
 
 -- The root coffer as it stands in a new image, and no other; nothing is committed.
 
