@@ -2,7 +2,7 @@
 use Rattle.std.proofs.Common.{◌≡◌, ◌≢◌, ◌⊎◌, inl, inr, ℕ, ◌+◌, ◌*◌, ◌/◌, ◌%◌, ◌^◌, ◌<◌, ◌≤◌, zero, suc, Bool, true, false, not, cond, ◌==◌, ◌&&◌, ◌||◌, if◌then◌else◌, List, [], ◌∷◌, ◌++◌, length, map, filter, take, nat_eq, refl, sym, ap, subst, ◌∙◌, arith, All, Contains, eq-eqb, ne_eqb}
 use Rattle.std.specs.Prelude.{Option, Some, None, is_some, fold, codes, nat_lt, nat_le}
 use Rattle.std.specs.List.{range_with_len, list_any, list_all, starts_with}
-use Rattle.std.proofs.lemmas.Bool.{cond-true, cond-false, cases_eq, cases_lt, cond_both, le-leb, ltb-true, ltb-false, false_from_ne_true}
+use Rattle.std.proofs.lemmas.Bool.{cond-true, cond-false, cases_eq, cases_lt, cond_both, le-leb, ltb-true, ltb-false, eqb-true, eqb-false, or_cases, or_parts, false_from_ne_true}
 use Rattle.std.proofs.lemmas.List.Elements.{All-head, All-tail, All-weaker}
 use Rattle.std.proofs.lemmas.Slice.Eq.{bytes_eq-Decides}
 use Rattle.pm_words.specs.Word.{Word}
@@ -16,7 +16,7 @@ use Rattle.tr_types.specs.KernelView.{pages_of, owner_of, free_pages}
 use Rattle.tr_types.specs.KernelTables.{Coffer, pages_owned, pages_free}
 use Rattle.tr_types.specs.Kernel.{coffers, coffer_pages, spare_pages, kernel_owner}
 use Rattle.tr_types.specs.PathMap.{coffer_of_path, longest}
-use Rattle.tr_types.specs.KernelCalls.{Callers, Row, located, or_none, is_bad_look, found_for, row_of_maps, refused_where, first_due, unless_refused, row_answer, row_events, zero_events, stored_events, find_row, map_row, map_row_for, mapped_as, in_use, least_of, key_or_none, answer_by, cred_of, answer_of, words_after, holders_after}
+use Rattle.tr_types.specs.KernelCalls.{Callers, Row, located, or_none, is_bad_look, found_for, row_of_maps, refused_where, first_due, unless_refused, row_answer, row_events, zero_events, stored_events, find_row, map_row, map_row_for, mapped_as, in_use, least_of, key_or_none, answer_by, cred_of, holds_any, holds_for_writing, unmap_row, enlarge_row, owner_pairs, inner_of, answer_of, words_after, holders_after}
 use Rattle.tr_types.specs.Inner.{made_all}
 use Rattle.tr_types.specs.declared.inner.Inner.{Inner}
 use Rattle.tr_types.specs.declared.kernel_call.FoundAt.{FoundAt}
@@ -25,9 +25,9 @@ use Rattle.tr_types.specs.declared.kernel_call.KernAnswer.{KernAnswer}
 use Rattle.tr_types.specs.declared.kernel_call.KernAnswer.TheVariants as kern
 use Rattle.tr_types.specs.declared.kernel_call.Kcall.TheVariants as call
 use Rattle.tr_types.specs.Permission.{refuses}
-use Rattle.tr_types.specs.Rights.{has_bit, those_against, key_for, with_row, IsLeastOf}
+use Rattle.tr_types.specs.Rights.{has_bit, allows_writing, those_against, key_for, is_row_of, holds_itself, with_row, without_row, IsLeastOf}
 use Rattle.tr_types.specs.Machine.{Bus, callers_of}
-use Rattle.tr_types.specs.RootCoffer.{IsRootAlone, root_coffer, root_perm, found_at, pages_held, root_mapped, IsGiven, MapAnswers, root_held}
+use Rattle.tr_types.specs.RootCoffer.{IsRootAlone, root_coffer, root_perm, found_at, pages_held, root_mapped, IsGiven, MapAnswers, UnmapAnswers, EnlargeAnswers, holds_to_write, root_held}
 use Rattle.tr_types.specs.declared.permission.Cred.{Cred}
 use Rattle.tr_types.specs.declared.permission.Right.{Right}
 
@@ -288,3 +288,97 @@ module _ (bus : Bus) (thread now : ℕ) (alone : IsRootAlone bus.words) (path : 
   map_held =
       ap (λ (r : Row). unless_refused r bus.holders r.holders) map_row_is ∙ held_by against key
       ∙ sym (ap (λ (a : KernAnswer). root_held thread (call.Map path right exclusive) a bus.holders) map_answer_is)
+
+-- Unmap
+
+same_rows : (thread id : ℕ) (holders : List Holder) → holds_any thread id holders ≡ holds_itself thread id holders
+same_rows thread id [] = refl
+same_rows thread id (h ∷ holders) = ap (λ (b : Bool). is_row_of thread id h || b) (same_rows thread id holders)
+
+module _ (bus : Bus) (thread now id : ℕ) where
+  abbrev unmap_answer : Bool → KernAnswer
+  unmap_answer holds = answer_by (first_due (refused_where (not holds) kern.NotHeld ∷ [])) kern.Done
+
+  unmap_by : (holds : Bool) → holds_itself thread id bus.holders ≡ holds → UnmapAnswers bus thread id (unmap_answer holds)
+  unmap_by true e = e
+  unmap_by false e = e
+
+  pub unmap_answers : UnmapAnswers bus thread id (answer_of (callers_of bus) bus.words bus.holders thread now (call.Unmap id))
+  unmap_answers = unmap_by (holds_any thread id bus.holders) (sym (same_rows thread id bus.holders))
+
+  pub unmap_words : words_after (callers_of bus) bus.words bus.holders thread now (call.Unmap id) ≡ bus.words
+  unmap_words = nothing bus.words (unmap_row bus.holders thread id) refl refl
+
+  unmapped_by : (holds : Bool)
+      → cond (is_some (first_due (refused_where (not holds) kern.NotHeld ∷ []))) bus.holders (without_row thread id bus.holders) ≡ root_held thread (call.Unmap id) (unmap_answer holds) bus.holders
+  unmapped_by true = refl
+  unmapped_by false = refl
+
+  pub unmap_held : holders_after (callers_of bus) bus.words bus.holders thread now (call.Unmap id)
+      ≡ root_held thread (call.Unmap id) (answer_of (callers_of bus) bus.words bus.holders thread now (call.Unmap id)) bus.holders
+  unmap_held = unmapped_by (holds_any thread id bus.holders)
+
+-- Enlarge
+
+same_writers : (thread id : ℕ) (holders : List Holder) → holds_for_writing thread id holders ≡ holds_to_write thread id holders
+same_writers thread id [] = refl
+same_writers thread id (h ∷ holders) = ap (λ (b : Bool). (is_row_of thread id h && allows_writing h.right) || b) (same_writers thread id holders)
+
+module _ (bus : Bus) (thread now id count : ℕ) (idle : committed_count bus.words ≡ 0) where
+  abbrev free : List ℕ
+  free = free_pages bus.words
+
+  abbrev enlarge_refusals : Bool → Bool → Bool → List (Option KernAnswer)
+  enlarge_refusals writes bad short = refused_where (not writes) kern.NotHeld ∷ refused_where bad kern.BadCount ∷ refused_where short (kern.NoPages count (length free)) ∷ []
+
+  abbrev enlarge_answer : Bool → Bool → Bool → KernAnswer
+  enlarge_answer writes bad short = answer_by (first_due (enlarge_refusals writes bad short)) (kern.Pages (take count free))
+
+  enlarge_by : (writes bad short : Bool) → holds_to_write thread id bus.holders ≡ writes → ((count == 0) || nat_lt 1024 count) ≡ bad → nat_lt (length free) count ≡ short
+      → EnlargeAnswers bus thread id count (enlarge_answer writes bad short)
+  enlarge_by false bad short w b s = w
+  enlarge_by true true short w b s = (w, elim (or_cases (count == 0) (nat_lt 1024 count) b) [
+    | inl none ↦ inl (eqb-true count 0 none)
+    | inr many ↦ inr (ltb-true 1024 count many)
+  ])
+  enlarge_by true false true w b s =
+      let parts = or_parts (count == 0) (nat_lt 1024 count) b in
+      let some = eqb-false count 0 parts.0 in
+      let most = ltb-false 1024 count parts.1 in
+      (w, omega (arith, some), most, (ltb-true (length free) count s, refl, refl))
+  enlarge_by true false false w b s =
+      let parts = or_parts (count == 0) (nat_lt 1024 count) b in
+      let some = eqb-false count 0 parts.0 in
+      let most = ltb-false 1024 count parts.1 in
+      (w, omega (arith, some), most, (ltb-false (length free) count s, refl))
+
+  abbrev enlarged : Row
+  enlarged = record {
+    refusals = enlarge_refusals (holds_for_writing thread id bus.holders) ((count == 0) || nat_lt 1024 count) (nat_lt (length free) count);
+    answer = kern.Pages (take count free);
+    granted = take count free;
+    pairs = owner_pairs bus.words id (take count free);
+    holders = bus.holders;
+  }
+
+  enlarge_row_is : enlarge_row bus.words bus.holders thread id count ≡ enlarged
+  enlarge_row_is =
+      ap (λ (spare : List ℕ). record {
+        refusals = refused_where (not (holds_for_writing thread id bus.holders)) kern.NotHeld ∷ refused_where ((count == 0) || nat_lt 1024 count) kern.BadCount ∷ refused_where (nat_lt (length spare) count) (kern.NoPages count (length spare)) ∷ [];
+        answer = kern.Pages (take count spare);
+        granted = take count spare;
+        pairs = owner_pairs bus.words id (take count spare);
+        holders = bus.holders;
+      }) (idle_spare bus.words idle)
+
+  pub enlarge_answers : EnlargeAnswers bus thread id count (answer_of (callers_of bus) bus.words bus.holders thread now (call.Enlarge id count))
+  enlarge_answers =
+      subst (EnlargeAnswers bus thread id count) (sym (ap row_answer enlarge_row_is))
+      (enlarge_by (holds_for_writing thread id bus.holders) ((count == 0) || nat_lt 1024 count) (nat_lt (length free) count) (sym (same_writers thread id bus.holders)) refl refl)
+
+  pub enlarge_held : holders_after (callers_of bus) bus.words bus.holders thread now (call.Enlarge id count) ≡ bus.holders
+  enlarge_held = same_both (is_some (first_due (enlarge_row bus.words bus.holders thread id count).refusals)) bus.holders
+
+  -- the pages are zeroed, and their owner words stored by the journal, exactly where they are given
+  pub enlarge_steps : inner_of (callers_of bus) bus.words bus.holders thread now (call.Enlarge id count) ≡ unless_refused enlarged [] (row_events enlarged)
+  enlarge_steps = ap (λ (r : Row). unless_refused r [] (row_events r)) enlarge_row_is
