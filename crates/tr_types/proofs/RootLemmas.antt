@@ -13,11 +13,12 @@ use Rattle.tr_types.specs.Tree.{in_first, parts_of, names_of}
 use Rattle.tr_types.specs.Paths.{same_text, is_name_byte, is_name_text, are_names_after, is_path_text, begins_with}
 use Rattle.tr_types.specs.Journal.{committed_count, kernel_word, laid_over, pair_at}
 use Rattle.tr_types.specs.KernelView.{pages_of, owner_of, free_pages}
-use Rattle.tr_types.specs.KernelTables.{Coffer, pages_owned, pages_free}
+use Rattle.tr_types.specs.KernelTables.{Coffer, coffers_in, pages_owned, pages_free}
 use Rattle.tr_types.specs.Kernel.{coffers, coffer_pages, spare_pages, kernel_owner}
 use Rattle.tr_types.specs.PathMap.{coffer_of_path, longest}
 use Rattle.tr_types.specs.KernelCalls.{Callers, Row, located, or_none, is_bad_look, found_for, row_of_maps, refused_where, first_due, unless_refused, row_answer, row_events, zero_events, stored_events, find_row, map_row, map_row_for, mapped_as, in_use, least_of, key_or_none, answer_by, cred_of, holds_any, holds_for_writing, unmap_row, enlarge_row, owner_pairs, inner_of, answer_of, words_after, holders_after}
 use Rattle.tr_types.specs.Inner.{made_all}
+use Rattle.tr_types.proofs.NewKernel.{one_coffer}
 use Rattle.tr_types.specs.declared.inner.Inner.{Inner}
 use Rattle.tr_types.specs.declared.kernel_call.FoundAt.{FoundAt}
 use Rattle.tr_types.specs.declared.kernel_call.Holder.{Holder}
@@ -57,9 +58,12 @@ or_last false = refl
 begins_root : (path : List ℕ) → begins_with path (codes "/") ≡ true
 begins_root path = or_last (same_text path (codes "/") || starts_with nat_eq path (codes "/" ++ 47 ∷ []))
 
+pub one_alone : (words : List Word) → IsRootAlone words → coffers words ≡ root_coffer (pages_of words) ∷ []
+one_alone words alone = ap (coffers_in (pages_of words)) (idle_reads words alone.idle) ∙ one_coffer (pages_of words) (λ addr. (word_at words addr).present) alone.entries
+
 pub located_root : (words : List Word) (path : List ℕ) → IsRootAlone words → located words path ≡ root_coffer (pages_of words)
 located_root words path alone =
-    ap (λ (cs : List Coffer). or_none (coffer_of_path cs path)) alone.alone
+    ap (λ (cs : List Coffer). or_none (coffer_of_path cs path)) (one_alone words alone)
     ∙ ap (λ (b : Bool). or_none (longest (cond b (root_coffer (pages_of words) ∷ []) []))) (begins_root path)
 
 -- A path of one name or none can be looked for.

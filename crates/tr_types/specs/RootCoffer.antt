@@ -3,12 +3,13 @@
 use Rattle.std.specs.Prelude.{◌≡◌, ◌⊎◌, ℕ, ◌<◌, ◌≤◌, List, [], ◌∷◌, length, take, map, filter, Bool, true, false, Option, Some, None, ◌==◌, ◌&&◌, ◌||◌, codes}
 use Rattle.std.specs.List.{range_with_len}
 use Rattle.pm_words.specs.Word.{Word}
-use Rattle.zo_layout.specs.Layout.{root_control, root_page}
+use Rattle.pm_words.specs.Memory.{word_at}
+use Rattle.zo_layout.specs.Layout.{page_at, word_of, coffer_table, root_control, root_page}
 use Rattle.tr_types.specs.Commands.{IsPath}
 use Rattle.tr_types.specs.KernelView.{pages_of, owner_of, free_pages}
 use Rattle.tr_types.specs.Rights.{key_for, those_against, holds_itself, allows_writing, is_row_of, with_row, without_row, IsLeastOf}
 use Rattle.tr_types.specs.Journal.{committed_count}
-use Rattle.tr_types.specs.Kernel.{coffers}
+use Rattle.tr_types.specs.NewImage.{coffer_word}
 use Rattle.tr_types.specs.KernelTables.{Coffer}
 use Rattle.tr_types.specs.Machine.{Bus}
 use Rattle.tr_types.specs.declared.kernel_call.Kcall.{Kcall}
@@ -93,11 +94,11 @@ root_held thread (Map path right exclusive) (IsMapped m) holders = with_row (rec
 root_held thread (Unmap id) IsDone holders = without_row thread id holders
 root_held thread kcall answer holders = holders
 
--- The root coffer as it stands in a new image, and no other; nothing is committed.
+-- The coffer table is that of a new image, so that the root coffer is there and no other; nothing is committed.
 
 abbrev pub root_coffer : ℕ → Coffer
 root_coffer pages = record { id = 1; path = codes "/"; perm = root_perm; state = 1; kind = 0; control = root_control pages; root = root_page pages }
 
 pub record IsRootAlone (words : List Word) : Type 0 where
   pub idle : committed_count words ≡ 0
-  pub alone : coffers words ≡ root_coffer (pages_of words) ∷ []
+  pub entries : (i : ℕ) → i < 16384 → (word_at words (word_of (page_at (coffer_table (pages_of words))) i)).present ≡ coffer_word (pages_of words) i
