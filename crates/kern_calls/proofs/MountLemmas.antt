@@ -4,9 +4,9 @@ use Rattle.zo_layout.specs.Layout.{committed_word}
 use Rattle.pm_words.specs.Memory.{HasPages, word_at}
 use Rattle.tr_types.specs.Journal.{committed_count}
 use Rattle.tr_types.specs.KernelRules.{IsSoundKernel}
-use Rattle.kern_journal.specs.Inner.{made_all}
-use Rattle.kern_journal.specs.Journal.{redo_events}
-use Rattle.kern_journal.specs.Law.{ViewLaw, IsFinished, IsDurable}
+use Rattle.tr_types.specs.Inner.{made_all}
+use Rattle.tr_types.specs.Inner.{redo_events}
+use Rattle.tr_types.specs.JournalLaws.{ViewLaw, IsFinished, IsDurable}
 use Rattle.kern_view.proofs.SoundLemmas.{sound_after}
 
 finished_by : (old new : List Word) → ViewLaw → HasPages (length old) → IsSoundKernel old → new ≡ made_all (redo_events old) old → IsFinished old new

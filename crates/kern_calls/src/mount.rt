@@ -5,9 +5,9 @@ ghost use Rattle.zo_layout.specs.Layout.{committed_word};
 ghost use Rattle.pm_words.specs.Memory.{word_at};
 ghost use Rattle.tr_types.specs.Journal.{committed_count};
 ghost use Rattle.tr_types.specs.KernelRules.{IsFirstFault, IsSoundKernel};
-ghost use Rattle.kern_journal.specs.Inner.{made_all, IsCut};
-ghost use Rattle.kern_journal.specs.Journal.{redo_events};
-ghost use Rattle.kern_journal.specs.Law.{IsDurable};
+ghost use Rattle.tr_types.specs.Inner.{made_all, IsCut};
+ghost use Rattle.tr_types.specs.Inner.{redo_events};
+ghost use Rattle.tr_types.specs.JournalLaws.{IsDurable};
 
 use kern_journal::{redo, view_law};
 use kern_view::first_fault;

@@ -1,7 +1,7 @@
 // The journal's steps, as lists.
 ghost use Rattle.std.specs.Prelude.{◌≡◌, ◌≤◌, ◌++◌, length, IfOk, OnOk, ◌<◌, ◌^◌};
-ghost use Rattle.kern_journal.specs.Inner.{phase, stores_of, flushes_at};
-ghost use Rattle.kern_journal.specs.Journal as spec;
+ghost use Rattle.tr_types.specs.Inner.{phase, stores_of, flushes_at};
+ghost use Rattle.tr_types.specs.Inner as spec;
 
 use crate::lines::lines_of;
 use std::alloc::{AllocError, Global};

@@ -1,7 +1,7 @@
 // Making the kernel's single steps.
 ghost use Rattle.std.specs.Prelude.{◌≡◌, ℕ, length, All, OnOk, OnErr};
 ghost use Rattle.pm_words.specs.Memory.{IsAddress};
-ghost use Rattle.kern_journal.specs.Inner.{made, made_all, IsCut, HasAddress};
+ghost use Rattle.tr_types.specs.Inner.{made, made_all, IsCut, HasAddress};
 
 use pm_words::{NoMemory, Words};
 use tr_types::Inner;

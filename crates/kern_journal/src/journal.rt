@@ -4,8 +4,8 @@ ghost use Rattle.std.specs.Result.{IsErrOf};
 ghost use Rattle.zo_layout.specs.Layout as layout;
 ghost use Rattle.pm_words.specs.Memory.{IsAddress, HasPages};
 ghost use Rattle.tr_types.specs.KernelView.{pages_of};
-ghost use Rattle.kern_journal.specs.Inner.{made_all, IsCut, HasAddress};
-ghost use Rattle.kern_journal.specs.Journal as spec;
+ghost use Rattle.tr_types.specs.Inner.{made_all, IsCut, HasAddress};
+ghost use Rattle.tr_types.specs.Inner as spec;
 
 use crate::events::{finish_any, journal_events};
 use crate::inner::make_all;

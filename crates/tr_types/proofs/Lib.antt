@@ -13,3 +13,19 @@ pub mod StepLemmas
 mod BitLemmas
 -- the rows where the root coffer is the only one
 pub mod RootLemmas
+-- what events do to one word
+pub mod WordSteps
+-- lines in order of address
+pub mod LineLemmas
+-- one pair more, and where the events are
+pub mod EventLemmas
+-- which words pairs name
+pub mod LaidLemmas
+-- what a phase leaves
+pub mod PhaseLemmas
+-- what finishing pairs leaves
+pub mod FinishLemmas
+-- what crashes between events leave
+pub mod CutLemmas
+-- crashes one after another
+pub mod CrashLemmas

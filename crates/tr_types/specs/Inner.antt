@@ -2,6 +2,7 @@
 use Rattle.std.specs.Prelude.{◌≡◌, ℕ, ◌+◌, ◌*◌, ◌/◌, ◌≤◌, ◌==◌, nat_lt, List, [], ◌∷◌, ◌++◌, map, take, fold, length, ⊤, if◌then◌else◌}
 use Rattle.zo_layout.specs.Layout.{committed_word, pair_address, pair_value}
 use Rattle.pm_words.specs.Word.{Word}
+pub use Rattle.tr_types.specs.Journal.{IsHome, committed_count, pair_at, committed, laid_over, kernel_word, IsReadable}
 use Rattle.pm_words.specs.Memory.{store_at, flush_at, fence_by, IsAddress}
 use Rattle.tr_types.specs.declared.inner.Inner.{Inner}
 use Rattle.tr_types.specs.declared.inner.Inner.TheVariants.{Store, Flush, Fence}
@@ -80,3 +81,11 @@ finish_events pairs = phase pairs ++ phase (count_pair 0)
 -- are committed; and then they are finished
 abbrev pub journal_events : List (ℕ × ℕ) → List Inner
 journal_events pairs = phase (journal_words 0 pairs) ++ (phase (count_pair (length pairs)) ++ finish_events pairs)
+
+-- what finishes the pairs that are committed in these words; nothing, where none is
+abbrev pub finish_any : List (ℕ × ℕ) → List Inner
+finish_any [] = []
+finish_any (p ∷ pairs) = finish_events (p ∷ pairs)
+
+abbrev pub redo_events : List Word → List Inner
+redo_events words = finish_any (committed words)

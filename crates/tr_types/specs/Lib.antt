@@ -44,3 +44,5 @@ pub mod Permission
 pub mod KernelCalls
 -- the same, of a root coffer that is the only one
 pub mod RootCoffer
+-- what the journal's steps leave, whole or cut by crashes
+pub mod JournalLaws

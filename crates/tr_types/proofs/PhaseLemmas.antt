@@ -9,11 +9,11 @@ use Rattle.pm_words.specs.Word.{Word, stored, crash_list}
 use Rattle.pm_words.specs.Memory.{word_at, IsAddress}
 use Rattle.tr_types.specs.declared.inner.Inner.{Inner}
 use Rattle.tr_types.specs.declared.inner.Inner.TheVariants.{Store, Flush, Fence}
-use Rattle.kern_journal.specs.Inner.{made_all, lines_of, stores_of, flushes_at, phase}
-use Rattle.kern_journal.specs.Journal.{IsHome, laid_over, journal_words, count_pair}
-use Rattle.kern_journal.specs.Law.{IsDurable, IsUnnamed, AreDone}
-use Rattle.kern_journal.proofs.WordSteps.{come, run_at, Spares, Shortened, run_spared, still_durable, within_shortened, flushed_durable}
-use Rattle.kern_journal.proofs.LaidLemmas.{IsNamed, named_at, has_line, laid_named}
+use Rattle.tr_types.specs.Inner.{made_all, lines_of, stores_of, flushes_at, phase}
+use Rattle.tr_types.specs.Inner.{IsHome, laid_over, journal_words, count_pair}
+use Rattle.tr_types.specs.JournalLaws.{IsDurable, IsUnnamed, AreDone}
+use Rattle.tr_types.proofs.WordSteps.{come, run_at, Spares, Shortened, run_spared, still_durable, within_shortened, flushed_durable}
+use Rattle.tr_types.proofs.LaidLemmas.{IsNamed, named_at, has_line, laid_named}
 
 -- the stores of a phase lay the pairs over a word
 stored_present : (addr : ℕ) (p : ℕ × ℕ) (w : Word) → addr % 8 ≡ 0 → p.0 % 8 ≡ 0 → (come addr w (Store p.0 p.1)).present ≡ (if nat_eq p.0 addr then p.1 else w.present)

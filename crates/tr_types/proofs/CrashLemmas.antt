@@ -11,15 +11,15 @@ use Rattle.pm_words.specs.Word.{Word, crash_list}
 use Rattle.pm_words.specs.Memory.{word_at, IsAddress, HasPages}
 use Rattle.pm_words.specs.Crash.{MayLeave}
 use Rattle.tr_types.specs.declared.inner.Inner.{Inner}
-use Rattle.kern_journal.specs.Inner.{made, made_all, phase}
-use Rattle.kern_journal.specs.Journal.{IsHome, IsReadable, committed, committed_count, pair_at, journal_words, count_pair, finish_events, finish_any, journal_events, redo_events, laid_over}
-use Rattle.kern_journal.specs.Law.{IsDurable, IsUnnamed, AreDone, IsReady, IsSettled, MayCome, IsAllOrNone, IsRedone, CrashLaw, CutLaw}
-use Rattle.kern_journal.proofs.EventLemmas.{count_inside, words_have}
-use Rattle.kern_journal.proofs.WordSteps.{length_run, Spares, Shortened, shortened_then, still_durable, Within, within_shortened}
-use Rattle.kern_journal.proofs.LaidLemmas.{laid_own, words_apart}
-use Rattle.kern_journal.proofs.PhaseLemmas.{take_past, kept_by, durable_kept, all_done, words_behind, home_from_words, count_from_words, home_from_count, words_from_count, count_done, count_either}
-use Rattle.kern_journal.proofs.FinishLemmas.{IsList, list_over, home_over, IsFinish, finish_is, nothing_is, committed_list, IsBegun, begun_is, ready_list, own_values}
-use Rattle.kern_journal.proofs.CutLemmas.{within_crash, crashed, durable_crashed, IsCommitted, IsStored, IsLeft, committed_is, none_committed, cut_committed}
+use Rattle.tr_types.specs.Inner.{made, made_all, phase}
+use Rattle.tr_types.specs.Inner.{IsHome, IsReadable, committed, committed_count, pair_at, journal_words, count_pair, finish_events, finish_any, journal_events, redo_events, laid_over}
+use Rattle.tr_types.specs.JournalLaws.{IsDurable, IsUnnamed, AreDone, IsReady, IsSettled, MayCome, IsAllOrNone, IsRedone, CrashLaw, CutLaw}
+use Rattle.tr_types.proofs.EventLemmas.{count_inside, words_have}
+use Rattle.tr_types.proofs.WordSteps.{length_run, Spares, Shortened, shortened_then, still_durable, Within, within_shortened}
+use Rattle.tr_types.proofs.LaidLemmas.{laid_own, words_apart}
+use Rattle.tr_types.proofs.PhaseLemmas.{take_past, kept_by, durable_kept, all_done, words_behind, home_from_words, count_from_words, home_from_count, words_from_count, count_done, count_either}
+use Rattle.tr_types.proofs.FinishLemmas.{IsList, list_over, home_over, IsFinish, finish_is, nothing_is, committed_list, IsBegun, begun_is, ready_list, own_values}
+use Rattle.tr_types.proofs.CutLemmas.{within_crash, crashed, durable_crashed, IsCommitted, IsStored, IsLeft, committed_is, none_committed, cut_committed}
 
 -- a crash inside of a `redo` with nothing to finish
 record IsIdleCut (after mid : List Word) : Type 0 where

@@ -10,8 +10,8 @@ use Rattle.std.proofs.lemmas.List.Sums.{fold-append}
 use Rattle.zo_layout.specs.Layout.{pair_address, pair_value, pair_capacity, committed_word}
 use Rattle.pm_words.specs.Memory.{IsAddress, HasPages}
 use Rattle.tr_types.specs.declared.inner.Inner.TheVariants.{Store, Flush, Fence}
-use Rattle.kern_journal.specs.Inner.{HasAddress, line_of, with_line, lines_of, stores_of, flushes_at, phase}
-use Rattle.kern_journal.specs.Journal.{laid_over, journal_words, count_pair, finish_events, finish_any, journal_events}
+use Rattle.tr_types.specs.Inner.{HasAddress, line_of, with_line, lines_of, stores_of, flushes_at, phase}
+use Rattle.tr_types.specs.Inner.{laid_over, journal_words, count_pair, finish_events, finish_any, journal_events}
 
 -- the journal's words with a pair more
 words_push : (i : ℕ) (ps : List (ℕ × ℕ)) (p : ℕ × ℕ)

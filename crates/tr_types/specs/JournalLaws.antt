@@ -6,8 +6,8 @@ use Rattle.pm_words.specs.Word.{Word, crash_list}
 use Rattle.pm_words.specs.Memory.{word_at, HasPages}
 use Rattle.pm_words.specs.Crash.{MayLeave}
 use Rattle.tr_types.specs.KernelView.{pages_of}
-use Rattle.kern_journal.specs.Inner.{made_all}
-use Rattle.kern_journal.specs.Journal.{IsHome, IsReadable, committed, committed_count, kernel_word, laid_over, journal_words, journal_events, redo_events}
+use Rattle.tr_types.specs.Inner.{made_all}
+use Rattle.tr_types.specs.Inner.{IsHome, IsReadable, committed, committed_count, kernel_word, laid_over, journal_words, journal_events, redo_events}
 
 -- a word has a value, and a crash leaves it
 pub record IsDurable (words : List Word) (addr value : ℕ) : Type 0 where

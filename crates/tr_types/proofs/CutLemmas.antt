@@ -10,13 +10,13 @@ use Rattle.pm_words.specs.Word.{Word, crash_list}
 use Rattle.pm_words.specs.Memory.{word_at, IsAddress}
 use Rattle.pm_words.specs.Crash.{MayLeave}
 use Rattle.tr_types.specs.declared.inner.Inner.{Inner}
-use Rattle.kern_journal.specs.Inner.{made, made_all, phase}
-use Rattle.kern_journal.specs.Journal.{IsHome, committed, pair_at, laid_over, journal_words, count_pair, finish_events}
-use Rattle.kern_journal.specs.Law.{IsDurable, IsUnnamed, AreDone}
-use Rattle.kern_journal.proofs.EventLemmas.{count_inside, words_have}
-use Rattle.kern_journal.proofs.WordSteps.{length_run, Spares, shortened_then, Within, within_shortened}
-use Rattle.kern_journal.proofs.PhaseLemmas.{IsInJournal, take_past, one_value, kept_by, durable_kept, all_done, count_in, words_in, words_behind, home_from_count, words_from_count, journal_from_homes, unnamed_spared, count_either}
-use Rattle.kern_journal.proofs.FinishLemmas.{IsList, list_over, home_over, addresses}
+use Rattle.tr_types.specs.Inner.{made, made_all, phase}
+use Rattle.tr_types.specs.Inner.{IsHome, committed, pair_at, laid_over, journal_words, count_pair, finish_events}
+use Rattle.tr_types.specs.JournalLaws.{IsDurable, IsUnnamed, AreDone}
+use Rattle.tr_types.proofs.EventLemmas.{count_inside, words_have}
+use Rattle.tr_types.proofs.WordSteps.{length_run, Spares, shortened_then, Within, within_shortened}
+use Rattle.tr_types.proofs.PhaseLemmas.{IsInJournal, take_past, one_value, kept_by, durable_kept, all_done, count_in, words_in, words_behind, home_from_count, words_from_count, journal_from_homes, unnamed_spared, count_either}
+use Rattle.tr_types.proofs.FinishLemmas.{IsList, list_over, home_over, addresses}
 
 -- what a crash leaves of one word
 pub within_crash : (words mid : List Word) (addr : ℕ) → MayLeave words mid → addr / 8 < length words → Within (word_at words addr) (word_at mid addr)

@@ -11,7 +11,7 @@ use Rattle.pm_words.specs.Word.{Word, settled, stored, flushed, fenced, crash_li
 use Rattle.pm_words.specs.Memory.{word_at, each_word}
 use Rattle.tr_types.specs.declared.inner.Inner.{Inner}
 use Rattle.tr_types.specs.declared.inner.Inner.TheVariants.{Store, Flush, Fence}
-use Rattle.kern_journal.specs.Inner.{kernel_thread, made, made_all, flushes_at}
+use Rattle.tr_types.specs.Inner.{kernel_thread, made, made_all, flushes_at}
 
 -- an event comes to the word at an address
 abbrev pub come : ℕ → Word → Inner → Word

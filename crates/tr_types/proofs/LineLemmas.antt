@@ -5,7 +5,7 @@ use Rattle.std.specs.List.Sorted.{IsBinarySearchResult}
 use Rattle.std.specs.Ordering.{nat_cmp}
 use Rattle.std.proofs.lemmas.Bool.{cases_lt, cases_eq, eq-eqb, ne_eqb, lt-ltb, le-ltb}
 use Rattle.std.proofs.lemmas.List.Sorted.{searched}
-use Rattle.kern_journal.specs.Inner.{line_of, with_line, lines_of, RisesFrom, IsAscending}
+use Rattle.tr_types.specs.Inner.{line_of, with_line, lines_of, RisesFrom, IsAscending}
 
 -- what stands where a line is, before the first of others and past it
 with_same : (line l : ℕ) (ls : List ℕ) → line ≡ l → with_line line (l ∷ ls) ≡ l ∷ ls

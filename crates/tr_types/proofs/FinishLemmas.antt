@@ -9,13 +9,13 @@ use Rattle.zo_layout.specs.Layout.{pair_capacity, committed_word}
 use Rattle.pm_words.specs.Word.{Word}
 use Rattle.pm_words.specs.Memory.{word_at, IsAddress, HasPages}
 use Rattle.tr_types.specs.declared.inner.Inner.{Inner}
-use Rattle.kern_journal.specs.Inner.{made, made_all, phase}
-use Rattle.kern_journal.specs.Journal.{IsHome, IsReadable, committed, committed_count, pair_at, laid_over, journal_words, count_pair, finish_events, finish_any, redo_events}
-use Rattle.kern_journal.specs.Law.{IsDurable, IsUnnamed, AreDone, IsReady, IsApplied, IsFinished, ApplyLaw, ViewLaw, IdleLaw}
-use Rattle.kern_journal.proofs.EventLemmas.{count_inside}
-use Rattle.kern_journal.proofs.WordSteps.{length_run, Shortened, same_word, shortened_then, within_shortened}
-use Rattle.kern_journal.proofs.LaidLemmas.{IsNamed, named_cases, laid_unnamed, laid_own}
-use Rattle.kern_journal.proofs.PhaseLemmas.{kept_by, phase_done, all_done, done_kept, home_from_words, home_from_count, unnamed_spared, count_done}
+use Rattle.tr_types.specs.Inner.{made, made_all, phase}
+use Rattle.tr_types.specs.Inner.{IsHome, IsReadable, committed, committed_count, pair_at, laid_over, journal_words, count_pair, finish_events, finish_any, redo_events}
+use Rattle.tr_types.specs.JournalLaws.{IsDurable, IsUnnamed, AreDone, IsReady, IsApplied, IsFinished, ApplyLaw, ViewLaw, IdleLaw}
+use Rattle.tr_types.proofs.EventLemmas.{count_inside}
+use Rattle.tr_types.proofs.WordSteps.{length_run, Shortened, same_word, shortened_then, within_shortened}
+use Rattle.tr_types.proofs.LaidLemmas.{IsNamed, named_cases, laid_unnamed, laid_own}
+use Rattle.tr_types.proofs.PhaseLemmas.{kept_by, phase_done, all_done, done_kept, home_from_words, home_from_count, unnamed_spared, count_done}
 
 -- pairs that the journal has room for, for words outside its pages
 pub record IsList (count : ℕ) (pairs : List (ℕ × ℕ)) : Type 0 where

@@ -6,10 +6,10 @@ use Rattle.std.proofs.lemmas.Bool.{cases_eq, cond_both, eq-eqb, ne_eqb, eqb-true
 use Rattle.std.proofs.lemmas.List.Elements.{All-nil, All-cons, All-head, All-tail}
 use Rattle.std.proofs.lemmas.Map.Keys.{IsDistinct-head, IsDistinct-tail}
 use Rattle.zo_layout.specs.Layout.{pair_address, pair_value}
-use Rattle.kern_journal.specs.Inner.{line_of, with_line, lines_of}
-use Rattle.kern_journal.specs.Journal.{laid_over, journal_words}
-use Rattle.kern_journal.specs.Law.{IsUnnamed}
-use Rattle.kern_journal.proofs.WordSteps.{HasLine}
+use Rattle.tr_types.specs.Inner.{line_of, with_line, lines_of}
+use Rattle.tr_types.specs.Inner.{laid_over, journal_words}
+use Rattle.tr_types.specs.JournalLaws.{IsUnnamed}
+use Rattle.tr_types.proofs.WordSteps.{HasLine}
 
 -- some pair is for the word at an address
 abbrev pub IsNamed : List (ℕ × ℕ) → ℕ → Type 0
