@@ -29,3 +29,5 @@ pub mod FinishLemmas
 pub mod CutLemmas
 -- crashes one after another
 pub mod CrashLemmas
+-- what is left where pages are given
+pub mod GivenSteps

@@ -59,7 +59,7 @@ begins_root : (path : List ℕ) → begins_with path (codes "/") ≡ true
 begins_root path = or_last (same_text path (codes "/") || starts_with nat_eq path (codes "/" ++ 47 ∷ []))
 
 pub one_alone : (words : List Word) → IsRootAlone words → coffers words ≡ root_coffer (pages_of words) ∷ []
-one_alone words alone = ap (coffers_in (pages_of words)) (idle_reads words alone.idle) ∙ one_coffer (pages_of words) (λ addr. (word_at words addr).present) alone.entries
+one_alone words alone = ap (coffers_in (pages_of words)) (idle_reads words alone.idle.present) ∙ one_coffer (pages_of words) (λ addr. (word_at words addr).present) alone.entries
 
 pub located_root : (words : List Word) (path : List ℕ) → IsRootAlone words → located words path ≡ root_coffer (pages_of words)
 located_root words path alone =
@@ -261,7 +261,7 @@ module _ (bus : Bus) (thread now : ℕ) (alone : IsRootAlone bus.words) (path : 
       ap (map_row_for (callers_of bus) bus.words bus.holders thread path right exclusive) (located_root bus.words path alone)
       ∙ ap (λ (b : Bool). record row { refusals = refused_where b kern.BadPath ∷ refused_where (refuses root_perm (cred_of (callers_of bus) thread) right) (kern.Denied right 1 1) ∷ None ∷ in_use (root_coffer (pages_of bus.words)) against ∷ refused_where (not (is_some key)) (kern.NoKey 1 1) ∷ []; answer = kern.Mapped (mapped_as bus.words (root_coffer (pages_of bus.words)) (key_or_none key)) }) (good_look path is)
       ∙ ap (λ (b : Bool). record row { refusals = None ∷ refused_where b (kern.Denied right 1 1) ∷ None ∷ in_use (root_coffer (pages_of bus.words)) against ∷ refused_where (not (is_some key)) (kern.NoKey 1 1) ∷ []; answer = kern.Mapped (mapped_as bus.words (root_coffer (pages_of bus.words)) (key_or_none key)) }) (root_refuses_none (cred_of (callers_of bus) thread) right given)
-      ∙ ap (λ (n : ℕ). record row { answer = kern.Mapped (record (root_mapped bus.words (key_or_none key)) { pages = n }) }) (idle_pages bus.words 1 alone.idle)
+      ∙ ap (λ (n : ℕ). record row { answer = kern.Mapped (record (root_mapped bus.words (key_or_none key)) { pages = n }) }) (idle_pages bus.words 1 alone.idle.present)
 
   pub map_answer_is : answer_of (callers_of bus) bus.words bus.holders thread now (call.Map path right exclusive) ≡ map_answer bus.words against key
   map_answer_is = ap row_answer map_row_is

@@ -28,7 +28,7 @@ each_at f words k lt =
     ∙ ap (λ (p : ℕ × Word). f p.0 p.1) (get_or-enumerate_from 0 words k (0, settled 0) lt)
     ∙ ap (λ (n : ℕ). f n (get_or words k (settled 0))) place
 
-made_at : (words : List Word) (addr : ℕ) (e : Inner) → addr / 8 < length words → word_at (made words e) addr ≡ come addr (word_at words addr) e
+pub made_at : (words : List Word) (addr : ℕ) (e : Inner) → addr / 8 < length words → word_at (made words e) addr ≡ come addr (word_at words addr) e
 made_at words addr (Store a value) lt = by (cases_eq (a / 8) (addr / 8))
   where
     by : (a / 8 ≡ addr / 8) ⊎ (a / 8 ≡ addr / 8 → ⊥) → word_at (made words (Store a value)) addr ≡ come addr (word_at words addr) (Store a value)

@@ -1,14 +1,15 @@
 -- How the kernel's calls are answered where the root coffer, whose number is 1, is the only one: what the rows say of it.
 -- These words follow from the rows, and nothing else is defined by them.
-use Rattle.std.specs.Prelude.{◌≡◌, ◌⊎◌, ℕ, ◌<◌, ◌≤◌, List, [], ◌∷◌, length, take, map, filter, Bool, true, false, Option, Some, None, ◌==◌, ◌&&◌, ◌||◌, codes}
+use Rattle.std.specs.Prelude.{◌≡◌, ◌≢◌, ◌⊎◌, ℕ, ◌/◌, ◌<◌, ◌≤◌, List, [], ◌∷◌, length, take, map, filter, Bool, true, false, Option, Some, None, All, ◌==◌, ◌&&◌, ◌||◌, codes}
 use Rattle.std.specs.List.{range_with_len}
 use Rattle.pm_words.specs.Word.{Word}
 use Rattle.pm_words.specs.Memory.{word_at}
-use Rattle.zo_layout.specs.Layout.{page_at, word_of, coffer_table, root_control, root_page}
+use Rattle.zo_layout.specs.Layout.{page_at, word_of, committed_word, owner_word, coffer_table, root_control, root_page}
 use Rattle.tr_types.specs.Commands.{IsPath}
 use Rattle.tr_types.specs.KernelView.{pages_of, owner_of, free_pages}
 use Rattle.tr_types.specs.Rights.{key_for, those_against, holds_itself, allows_writing, is_row_of, with_row, without_row, IsLeastOf}
-use Rattle.tr_types.specs.Journal.{committed_count}
+use Rattle.tr_types.specs.Journal.{IsHome}
+use Rattle.tr_types.specs.JournalLaws.{IsDurable}
 use Rattle.tr_types.specs.NewImage.{coffer_word}
 use Rattle.tr_types.specs.KernelTables.{Coffer}
 use Rattle.tr_types.specs.Machine.{Bus}
@@ -100,5 +101,15 @@ abbrev pub root_coffer : ℕ → Coffer
 root_coffer pages = record { id = 1; path = codes "/"; perm = root_perm; state = 1; kind = 0; control = root_control pages; root = root_page pages }
 
 pub record IsRootAlone (words : List Word) : Type 0 where
-  pub idle : committed_count words ≡ 0
+  pub idle : IsDurable words committed_word 0
   pub entries : (i : ℕ) → i < 16384 → (word_at words (word_of (page_at (coffer_table (pages_of words))) i)).present ≡ coffer_word (pages_of words) i
+
+-- Pages have come to a coffer: their owner's words say so, all their words are 0, and no other word outside the journal has another
+-- value. Nothing is committed, and durably so.
+pub record IsGivenTo (id : ℕ) (pages : List ℕ) (old new : List Word) : Type 0 where
+  pub len : length new ≡ length old
+  pub idle : IsDurable new committed_word 0
+  pub owned : All (λ page. (word_at new (owner_word (pages_of old) page)).present ≡ id) pages
+  pub zeroed : All (λ page. (i : ℕ) → i < 512 → (word_at new (word_of (page_at page) i)).present ≡ 0) pages
+  pub others : (addr : ℕ) → IsHome (length old) addr → All (λ page. owner_word (pages_of old) page ≢ addr) pages → All (λ page. addr / 4096 ≢ page) pages
+      → (word_at new addr).present ≡ (word_at old addr).present
