@@ -46,6 +46,10 @@ fold_put acc (p ∷ ps) bound below (least, rises) =
 pub in_order_already : (ps : List (ℕ × ℕ)) (bound : ℕ) → Rises bound ps → in_order ps ≡ ps
 in_order_already ps bound rises = fold_put [] ps bound (All-nil (λ (q : ℕ × ℕ). q.0 < bound)) rises
 
+pub rises_from_less : (more : ℕ) (ps : List (ℕ × ℕ)) → Rises more ps → Rises 0 ps
+rises_from_less more [] rises = tt
+rises_from_less more (p ∷ ps) (least, rises) = (omega arith, rises)
+
 all_past : (x bound : ℕ) (ps : List (ℕ × ℕ)) → x < bound → Rises bound ps → AllByRecursion (λ y. nat_eq x y ≡ false) (map (λ (p : ℕ × ℕ). p.0) ps)
 all_past x bound [] less rises = tt
 all_past x bound (p ∷ ps) less (least, rises) = (ne_eqb x p.0 (λ e. omega (arith, e, less, least)), all_past x (p.0 + 1) ps (omega (arith, less, least)) rises)
@@ -177,7 +181,7 @@ pub record CanBeGiven (words : List Word) (pages : List ℕ) : Type 0 where
   pub rise : RisesFrom 0 pages
   pub inside : All (λ page. (kernel_pages (pages_of words) ≤ page) × (page < pages_of words)) pages
 
-length_owners : (words : List Word) (id : ℕ) (pages : List ℕ) → length (owner_pairs words id pages) ≡ length pages
+pub length_owners : (words : List Word) (id : ℕ) (pages : List ℕ) → length (owner_pairs words id pages) ≡ length pages
 length_owners words id [] = refl
 length_owners words id (page ∷ pages) = ap suc (length_owners words id pages)
 

@@ -1,13 +1,15 @@
 -- What the rows of the kernel's calls say where the root coffer is the only one.
-use Rattle.std.proofs.Common.{◌≡◌, ◌≢◌, ◌⊎◌, inl, inr, ℕ, ◌+◌, ◌*◌, ◌/◌, ◌%◌, ◌^◌, ◌<◌, ◌≤◌, zero, suc, Bool, true, false, not, cond, ◌==◌, ◌&&◌, ◌||◌, if◌then◌else◌, List, [], ◌∷◌, ◌++◌, length, map, filter, take, nat_eq, refl, sym, ap, subst, ◌∙◌, arith, All, Contains, eq-eqb, ne_eqb}
+use Rattle.std.proofs.Common.{◌≡◌, ◌≢◌, ◌⊎◌, inl, inr, ℕ, ◌+◌, ◌*◌, ◌/◌, ◌%◌, ◌^◌, ◌<◌, ◌≤◌, zero, suc, Bool, true, false, not, cond, ◌==◌, ◌&&◌, ◌||◌, if◌then◌else◌, List, [], ◌∷◌, ◌++◌, length, map, filter, take, get_or, nat_eq, refl, sym, ap, subst, ◌∙◌, arith, All, Contains, eq-eqb, ne_eqb}
 use Rattle.std.specs.Prelude.{Option, Some, None, is_some, fold, codes, nat_lt, nat_le}
 use Rattle.std.specs.List.{range_with_len, list_any, list_all, starts_with}
 use Rattle.std.proofs.lemmas.Bool.{cond-true, cond-false, cases_eq, cases_lt, cond_both, le-leb, ltb-true, ltb-false, eqb-true, eqb-false, or_cases, or_parts, false_from_ne_true}
-use Rattle.std.proofs.lemmas.List.Elements.{All-head, All-tail, All-weaker}
+use Rattle.std.proofs.lemmas.List.Elements.{All-nil, All-cons, All-head, All-tail, All-weaker, All-take, All-filter, filter_passes}
+use Rattle.std.proofs.lemmas.List.{length-take-le}
+use Rattle.std.proofs.lemmas.List.Sums.{fold-append}
 use Rattle.std.proofs.lemmas.Slice.Eq.{bytes_eq-Decides}
 use Rattle.pm_words.specs.Word.{Word}
-use Rattle.pm_words.specs.Memory.{word_at}
-use Rattle.zo_layout.specs.Layout.{root_control, root_page}
+use Rattle.pm_words.specs.Memory.{word_at, HasPages}
+use Rattle.zo_layout.specs.Layout.{root_control, root_page, kernel_pages, owner_word, committed_word}
 use Rattle.tr_types.specs.Commands.{IsName, IsNameByte, IsPathOfOne, IsPath}
 use Rattle.tr_types.specs.Tree.{in_first, parts_of, names_of}
 use Rattle.tr_types.specs.Paths.{same_text, is_name_byte, is_name_text, are_names_after, is_path_text, begins_with}
@@ -17,8 +19,10 @@ use Rattle.tr_types.specs.KernelTables.{Coffer, coffers_in, pages_owned, pages_f
 use Rattle.tr_types.specs.Kernel.{coffers, coffer_pages, spare_pages, kernel_owner}
 use Rattle.tr_types.specs.PathMap.{coffer_of_path, longest}
 use Rattle.tr_types.specs.KernelCalls.{Callers, Row, located, or_none, is_bad_look, found_for, row_of_maps, refused_where, first_due, unless_refused, row_answer, row_events, zero_events, stored_events, find_row, map_row, map_row_for, mapped_as, in_use, least_of, key_or_none, answer_by, cred_of, holds_any, holds_for_writing, unmap_row, enlarge_row, owner_pairs, inner_of, answer_of, words_after, holders_after}
-use Rattle.tr_types.specs.Inner.{made_all}
+use Rattle.tr_types.specs.Inner.{made, made_all, journal_events}
 use Rattle.tr_types.proofs.NewKernel.{one_coffer}
+use Rattle.tr_types.proofs.GivenSteps.{Rises, in_order_already, owners_rise, rises_from_less, filter_rises, take_rises, length_owners, CanBeGiven, given_to}
+use Rattle.tr_types.specs.JournalLaws.{IsDurable}
 use Rattle.tr_types.specs.declared.inner.Inner.{Inner}
 use Rattle.tr_types.specs.declared.kernel_call.FoundAt.{FoundAt}
 use Rattle.tr_types.specs.declared.kernel_call.Holder.{Holder}
@@ -28,7 +32,7 @@ use Rattle.tr_types.specs.declared.kernel_call.Kcall.TheVariants as call
 use Rattle.tr_types.specs.Permission.{refuses}
 use Rattle.tr_types.specs.Rights.{has_bit, allows_writing, those_against, key_for, is_row_of, holds_itself, with_row, without_row, IsLeastOf}
 use Rattle.tr_types.specs.Machine.{Bus, callers_of}
-use Rattle.tr_types.specs.RootCoffer.{IsRootAlone, root_coffer, root_perm, found_at, pages_held, root_mapped, IsGiven, MapAnswers, UnmapAnswers, EnlargeAnswers, holds_to_write, root_held}
+use Rattle.tr_types.specs.RootCoffer.{IsRootAlone, root_coffer, root_perm, found_at, pages_held, root_mapped, IsGiven, MapAnswers, UnmapAnswers, EnlargeAnswers, holds_to_write, root_held, IsGivenTo}
 use Rattle.tr_types.specs.declared.permission.Cred.{Cred}
 use Rattle.tr_types.specs.declared.permission.Right.{Right}
 
@@ -386,3 +390,84 @@ module _ (bus : Bus) (thread now id count : ℕ) (idle : committed_count bus.wor
   -- the pages are zeroed, and their owner words stored by the journal, exactly where they are given
   pub enlarge_steps : inner_of (callers_of bus) bus.words bus.holders thread now (call.Enlarge id count) ≡ unless_refused enlarged [] (row_events enlarged)
   enlarge_steps = ap (λ (r : Row). unless_refused r [] (row_events r)) enlarge_row_is
+
+-- What an Enlarge leaves of the memory.
+
+abbrev pub EnlargeLeaves : ℕ → List Word → KernAnswer → List Word → Type 0
+EnlargeLeaves id old (kern.Pages pages) new = IsGivenTo id pages old new
+EnlargeLeaves id old answer new = new ≡ old
+
+-- the kernel's pages are owned
+pub record OwnsKernel (words : List Word) : Type 0 where
+  pub size : HasPages (length words)
+  pub idle : IsDurable words committed_word 0
+  pub kernels : (page : ℕ) → page < kernel_pages (pages_of words) → owner_of words page ≢ 0
+
+below_range : (a n : ℕ) → All (λ k. k < a + n) (range_with_len a n)
+below_range a zero = All-nil (λ k. k < a + zero)
+below_range a (suc n) = All-cons (λ k. k < a + suc n) a (range_with_len (a + 1) n) (omega arith) (All-weaker (λ k. k < a + 1 + n) (λ k. k < a + suc n) (λ k lt. omega (arith, lt)) (range_with_len (a + 1) n) (below_range (a + 1) n))
+
+free_inside : (words : List Word) (count : ℕ) → OwnsKernel words → All (λ page. (kernel_pages (pages_of words) ≤ page) × (page < pages_of words)) (take count (free_pages words))
+free_inside words count owns k d lt = (past (cases_lt page (kernel_pages (pages_of words))), inside)
+  where
+    page : ℕ
+    page = get_or (take count (free_pages words)) k d
+
+    test : ℕ → Bool
+    test p = nat_eq (owner_of words p) 0
+
+    free_is : owner_of words page ≡ 0
+    free_is = eqb-true (owner_of words page) 0 (All-take (λ p. test p ≡ true) count (free_pages words) (filter_passes test (range_with_len 0 (pages_of words))) k d lt)
+
+    inside : page < pages_of words
+    inside = let below = All-take (λ p. p < 0 + pages_of words) count (free_pages words) (All-filter test (λ p. p < 0 + pages_of words) (range_with_len 0 (pages_of words)) (below_range 0 (pages_of words))) k d lt in omega (arith, below)
+
+    past : (page < kernel_pages (pages_of words)) ⊎ (kernel_pages (pages_of words) ≤ page) → kernel_pages (pages_of words) ≤ page
+    past (inl low) = absurd (owns.kernels page low free_is)
+    past (inr high) = high
+
+can_give : (words : List Word) (count : ℕ) → OwnsKernel words → CanBeGiven words (take count (free_pages words))
+can_give words count owns = record {
+  size = owns.size;
+  idle = owns.idle;
+  rise = take_rises count 0 (free_pages words) (filter_rises (λ page. nat_eq (owner_of words page) 0) 0 (pages_of words));
+  inside = free_inside words count owns;
+}
+
+-- pairs that stand in order are stored by the journal as they are
+stored_in_order : (pairs : List (ℕ × ℕ)) → 0 < length pairs → Rises 0 pairs → stored_events pairs ≡ journal_events pairs
+stored_in_order [] some rises = absurd (omega arith)
+stored_in_order (p ∷ pairs) some rises = ap journal_events (in_order_already (p ∷ pairs) 0 rises)
+
+module _ (bus : Bus) (thread now id count : ℕ) (owns : OwnsKernel bus.words) where
+  abbrev spare : List ℕ
+  spare = take count (free_pages bus.words)
+
+  given_events : 0 < length spare → row_events (enlarged bus thread now id count owns.idle.present) ≡ zero_events spare ++ journal_events (owner_pairs bus.words id spare)
+  given_events some =
+      ap (λ (es : List Inner). zero_events spare ++ es)
+      (stored_in_order (owner_pairs bus.words id spare) (let is = length_owners bus.words id spare in omega (arith, is, some))
+      (rises_from_less (owner_word (pages_of bus.words) 0) (owner_pairs bus.words id spare) (owners_rise bus.words id 0 spare (can_give bus.words count owns).rise)))
+
+  enough_given : 0 < length spare → IsGivenTo id spare bus.words (made_all (row_events (enlarged bus thread now id count owns.idle.present)) bus.words)
+  enough_given some =
+      subst (IsGivenTo id spare bus.words)
+      (sym (ap (λ (es : List Inner). made_all es bus.words) (given_events some) ∙ fold-append made bus.words (zero_events spare) (journal_events (owner_pairs bus.words id spare))))
+      (given_to bus.words id spare (can_give bus.words count owns))
+
+  leaves_by : (writes bad short : Bool) → ((count == 0) || nat_lt 1024 count) ≡ bad → nat_lt (length (free_pages bus.words)) count ≡ short
+      → EnlargeLeaves id bus.words (enlarge_answer bus thread now id count owns.idle.present writes bad short)
+        (made_all (cond (is_some (first_due (enlarge_refusals bus thread now id count owns.idle.present writes bad short))) [] (row_events (enlarged bus thread now id count owns.idle.present))) bus.words)
+  leaves_by false bad short b s = refl
+  leaves_by true true short b s = refl
+  leaves_by true false true b s = refl
+  leaves_by true false false b s =
+      let some = eqb-false count 0 (or_parts (count == 0) (nat_lt 1024 count) b).0 in
+      let enough = ltb-false (length (free_pages bus.words)) count s in
+      let is = length-take-le count (free_pages bus.words) enough in
+      enough_given (omega (arith, some, is))
+
+  pub enlarge_leaves : EnlargeLeaves id bus.words (answer_of (callers_of bus) bus.words bus.holders thread now (call.Enlarge id count)) (words_after (callers_of bus) bus.words bus.holders thread now (call.Enlarge id count))
+  enlarge_leaves =
+      subst (λ (r : Row). EnlargeLeaves id bus.words (row_answer r) (made_all (unless_refused r [] (row_events r)) bus.words)) (sym (enlarge_row_is bus thread now id count owns.idle.present))
+      (leaves_by (holds_for_writing thread id bus.holders) ((count == 0) || nat_lt 1024 count) (nat_lt (length (free_pages bus.words)) count) refl refl)
