@@ -32,7 +32,7 @@ use Rattle.tr_types.specs.declared.kernel_call.Kcall.TheVariants as call
 use Rattle.tr_types.specs.Permission.{refuses}
 use Rattle.tr_types.specs.Rights.{has_bit, allows_writing, those_against, key_for, is_row_of, holds_itself, with_row, without_row, IsLeastOf}
 use Rattle.tr_types.specs.Machine.{Bus, callers_of}
-use Rattle.tr_types.specs.RootCoffer.{IsRootAlone, root_coffer, root_perm, found_at, pages_held, root_mapped, IsGiven, MapAnswers, UnmapAnswers, EnlargeAnswers, holds_to_write, root_held, IsGivenTo}
+use Rattle.tr_types.specs.RootCoffer.{IsRootAlone, root_coffer, root_perm, found_at, pages_held, root_mapped, IsGiven, MapAnswers, UnmapAnswers, EnlargeAnswers, holds_to_write, root_held, IsGivenTo, EnlargeLeaves}
 use Rattle.tr_types.specs.declared.permission.Cred.{Cred}
 use Rattle.tr_types.specs.declared.permission.Right.{Right}
 
@@ -392,10 +392,6 @@ module _ (bus : Bus) (thread now id count : ℕ) (idle : committed_count bus.wor
   enlarge_steps = ap (λ (r : Row). unless_refused r [] (row_events r)) enlarge_row_is
 
 -- What an Enlarge leaves of the memory.
-
-abbrev pub EnlargeLeaves : ℕ → List Word → KernAnswer → List Word → Type 0
-EnlargeLeaves id old (kern.Pages pages) new = IsGivenTo id pages old new
-EnlargeLeaves id old answer new = new ≡ old
 
 -- the kernel's pages are owned
 pub record OwnsKernel (words : List Word) : Type 0 where

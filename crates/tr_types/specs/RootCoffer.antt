@@ -113,3 +113,8 @@ pub record IsGivenTo (id : ℕ) (pages : List ℕ) (old new : List Word) : Type 
   pub zeroed : All (λ page. (i : ℕ) → i < 512 → (word_at new (word_of (page_at page) i)).present ≡ 0) pages
   pub others : (addr : ℕ) → IsHome (length old) addr → All (λ page. owner_word (pages_of old) page ≢ addr) pages → All (λ page. addr / 4096 ≢ page) pages
       → (word_at new addr).present ≡ (word_at old addr).present
+
+-- what an Enlarge of a coffer that was answered so leaves of the memory
+abbrev pub EnlargeLeaves : ℕ → List Word → KernAnswer → List Word → Type 0
+EnlargeLeaves id old (Pages pages) new = IsGivenTo id pages old new
+EnlargeLeaves id old answer new = new ≡ old
