@@ -59,7 +59,8 @@ pub fn path_of(alloc: Global, words: &Words, id: u16) -> Result<Path, RootsFault
     Ok(Path::new(path))
 }
 
-/// The coffers that lie directly under a coffer, the least number first.
+/// The coffers that lie directly under a coffer, the least number first. It costs a look for the coffer
+/// above each coffer's path.
 pub fn children(alloc: Global, words: &Words, id: u16) -> Result<Vec<u16>, RootsFault>
     requires sound { IsSoundKernel words.now }
     ensures ok { IfOk result (λ ids. ids.items ≡ children_of (coffers words.now) id) }
