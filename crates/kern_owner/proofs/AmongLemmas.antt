@@ -1,12 +1,12 @@
 -- Which pages are in a list, and lists in order of their numbers.
-use Rattle.std.proofs.Common.{◌≡◌, ◌⊎◌, inl, inr, ℕ, ◌+◌, ◌<◌, ◌≤◌, Bool, true, false, cond, not, List, [], ◌∷◌, ◌++◌, length, take, drop, filter, refl, sym, ap, ◌∙◌, arith, suc, zero, nat_eq, Less}
+use Rattle.std.proofs.Common.{◌≡◌, ◌⊎◌, inl, inr, ℕ, ◌+◌, ◌<◌, ◌≤◌, Bool, true, false, cond, not, List, [], ◌∷◌, ◌++◌, take, drop, filter, refl, sym, ap, ◌∙◌, arith, suc, zero, nat_eq, Less}
 use Rattle.std.specs.Prelude.{◌&&◌, ◌||◌, All, ⊤}
-use Rattle.std.specs.List.{range_with_len, list_any, AllByRecursion, IsDistinct}
+use Rattle.std.specs.List.{range_with_len, AllByRecursion, IsDistinct}
 use Rattle.std.specs.List.Sorted.{IsPermutation, IsSorted, IsStrictlySortedBy}
 use Rattle.std.specs.Ordering.{nat_cmp}
-use Rattle.std.proofs.lemmas.Bool.{cases_eq, cases_Bool, eq-eqb, ne_eqb, eqb-true, or_cases, or_parts}
+use Rattle.std.proofs.lemmas.Bool.{cases_eq, cases_Bool, eq-eqb, ne_eqb, eqb-true, or_cases}
 use Rattle.std.proofs.lemmas.Bool.Decides.{nat_tests}
-use Rattle.std.proofs.lemmas.List.Elements.{All-head, All-tail, All-from_recursion, recursion_from_All}
+use Rattle.std.proofs.lemmas.List.Elements.{All-head, All-tail, recursion_from_All}
 use Rattle.std.proofs.lemmas.List.Folds.{list_any-append}
 use Rattle.std.proofs.lemmas.List.Sorted.{IsNonDecreasingBy-from_sort, list_any-IsPermutation, All-permutation}
 use Rattle.std.proofs.lemmas.Map.Keys.{IsDistinct-IsPermutation, IsStrictlyIncreasing-from_distinct, sorted_from_strictly_increasing}
@@ -145,7 +145,7 @@ lower low less [] le up = tt
 lower low less (x ∷ xs) le up = (let first = up.0 in omega arith, up.1)
 
 -- each is at least the least
-least_of : (low : ℕ) (xs : List ℕ) → Ascends low xs → AllByRecursion (λ x. low ≤ x) xs
+pub least_of : (low : ℕ) (xs : List ℕ) → Ascends low xs → AllByRecursion (λ x. low ≤ x) xs
 least_of low [] up = tt
 least_of low (x ∷ xs) up = (up.0, least_of low xs (lower (x + 1) low xs (let first = up.0 in omega arith) up.1))
 

@@ -1,10 +1,10 @@
 -- What the owner table says once pages have come to a coffer or gone back.
-use Rattle.std.proofs.Common.{◌≡◌, ◌≢◌, ◌⊎◌, inl, inr, ℕ, ◌+◌, ◌-◌, ◌*◌, ◌/◌, ◌<◌, ◌≤◌, Bool, true, false, cond, not, List, [], ◌∷◌, ◌++◌, length, take, drop, filter, map, refl, sym, ap, ◌∙◌, arith, suc, zero, nat_eq}
-use Rattle.std.specs.Prelude.{◌&&◌, ◌||◌, nat_lt, nat_le, All}
+use Rattle.std.proofs.Common.{◌≡◌, ◌≢◌, ◌⊎◌, inl, inr, ℕ, ◌<◌, ◌≤◌, Bool, true, false, cond, not, List, [], ◌∷◌, ◌++◌, take, filter, refl, sym, ap, ◌∙◌, arith, nat_eq}
+use Rattle.std.specs.Prelude.{◌&&◌, ◌||◌, nat_le, All}
 use Rattle.std.specs.List.{range_with_len}
 use Rattle.std.proofs.lemmas.Bool.{cases_eq, cases_Bool, eq-eqb, ne_eqb, eqb-true, lt-ltb, le-ltb, leb-true, or_cases, and_parts, false_from_ne_true}
 use Rattle.std.proofs.lemmas.List.Elements.{All-head, All-tail, All-take}
-use Rattle.zo_layout.specs.Layout.{page_at, kernel_pages, owner_table, coffer_table, owner_word, coffer_entry, coffer_state, coffer_control, coffer_root}
+use Rattle.zo_layout.specs.Layout.{page_at, kernel_pages, coffer_table, owner_word, coffer_entry, coffer_state, coffer_control, coffer_root}
 use Rattle.tr_types.specs.Journal.{laid_over}
 use Rattle.tr_types.specs.KernelTables.{owner_in, pages_owned, pages_free, is_id, is_there, stands_in, owner_fails, entry_fails, bucket_fails}
 use Rattle.tr_types.specs.Kernel.{read_after}
@@ -13,7 +13,7 @@ use Rattle.kern_owner.specs.Laws.{SameTables, SameCoffers, IsPassed, OwnersPass,
 use Rattle.kern_owner.proofs.RangeLemmas.{within}
 use Rattle.kern_owner.proofs.SoundLemmas.{OwnerCase, Kernels, Nobodys, Coffers, owner_case}
 use Rattle.kern_owner.proofs.TableLemmas.{entry_stays, bucket_stays}
-use Rattle.kern_owner.proofs.AmongLemmas.{filter_agree_in, filter_twice, among_append, among_filter, among_kept, among_within, among_in_order, among_take, rest_is, ascends_kept}
+use Rattle.kern_owner.proofs.AmongLemmas.{filter_agree_in, filter_twice, among_append, among_filter, among_kept, among_in_order, among_take, rest_is, ascends_kept}
 
 -- Pairs for owner words, laid over what was read.
 

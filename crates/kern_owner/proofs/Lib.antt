@@ -10,3 +10,5 @@ pub mod LawLemmas
 pub mod TableLemmas
 -- a pair that is committed
 mod PendingLemmas
+-- the pages of an owner, as they are taken back
+pub mod OwnedLemmas

@@ -1,20 +1,19 @@
 -- One committed pair, for the owner word of a free page: no rule of the kernel's pages fails then.
-use Rattle.std.proofs.Common.{◌≡◌, ◌≢◌, ◌⊎◌, inl, inr, ℕ, ◌+◌, ◌-◌, ◌*◌, ◌/◌, ◌%◌, ◌<◌, ◌≤◌, Bool, true, false, cond, List, [], ◌∷◌, length, map, refl, sym, ap, subst, ◌∙◌, arith, nat_eq}
+use Rattle.std.proofs.Common.{◌≡◌, ◌≢◌, ◌⊎◌, inl, inr, ℕ, ◌/◌, ◌%◌, ◌<◌, ◌≤◌, Bool, true, false, List, [], ◌∷◌, length, map, refl, sym, ap, subst, ◌∙◌, arith, nat_eq}
 use Rattle.std.specs.Prelude.{All, ◌||◌}
 use Rattle.std.specs.List.{range_with_len}
-use Rattle.std.proofs.lemmas.Bool.{cases_eq, eq-eqb, ne_eqb, eqb-true, or_cases}
+use Rattle.std.proofs.lemmas.Bool.{cases_eq, ne_eqb, eqb-true, or_cases}
 use Rattle.std.proofs.lemmas.List.Elements.{All-nil, All-cons}
 use Rattle.pm_words.specs.Word.{Word}
-use Rattle.pm_words.specs.Memory.{word_at, store_at, IsAddress, IsPages}
+use Rattle.pm_words.specs.Memory.{word_at, store_at, IsPages}
 use Rattle.pm_words.proofs.WordLemmas.{length_store_at, word_at_stored, word_at_other}
-use Rattle.zo_layout.specs.Layout.{page_at, kernel_pages, owner_table, owner_word, signature_word, version_word, count_word, committed_word, pair_address, pair_value, pair_capacity, coffer_entry, coffer_control, coffer_root}
+use Rattle.zo_layout.specs.Layout.{page_at, kernel_pages, owner_word, signature_word, version_word, count_word, committed_word, pair_address, pair_value, pair_capacity}
 use Rattle.tr_types.specs.KernelView.{pages_of}
-use Rattle.tr_types.specs.Journal.{IsHome, IsReadable, committed, committed_count, pair_at, laid_over, kernel_word}
+use Rattle.tr_types.specs.Journal.{IsHome, committed, committed_count, pair_at, laid_over, kernel_word}
 use Rattle.tr_types.specs.KernelTables.{owner_in, is_id, stands_in, owner_fails, entry_fails, bucket_fails}
-use Rattle.tr_types.specs.KernelRules.{IsSoundKernel, IsFinishable}
-use Rattle.tr_types.specs.Kernel.{read_after}
+use Rattle.tr_types.specs.KernelRules.{IsSoundKernel}
 use Rattle.tr_types.proofs.FreePages.{pages_are}
-use Rattle.kern_owner.specs.Owners.{owner_pairs, is_among}
+use Rattle.kern_owner.specs.Owners.{is_among}
 use Rattle.kern_owner.specs.Laws.{HasPassed, IsPassed, TablesPass}
 use Rattle.kern_owner.proofs.LawLemmas.{passed, rules_hold, others_kept}
 

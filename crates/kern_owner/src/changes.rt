@@ -36,7 +36,7 @@ pub fn grant(alloc: Global, words: &Words, id: u16, count: u32) -> Result<Grant,
     Ok(Grant { pages, pairs })
 }
 
-/// The pairs that make pages nobody's. The pages may stand in any order.
+/// The pairs that make pages nobody's. The pages differ, in any order, and none is the kernel's.
 pub fn take_back(alloc: Global, words: &Words, pages: &[u32]) -> Result<Pairs, NoMemory>
     requires inside { All (λ page. page < view.pages_of words.now) pages.now }
     requires differ { IsDistinct nat_eq pages.now }

@@ -1,7 +1,7 @@
 -- What the kernel's tables say: whose each page is, and which coffers there are. `at` gives the word at each byte address
 -- as the kernel reads it, so that the same tables can be read from the words as they stand, or with a list of changes
 -- laid over them. `pages` is the number of pages of the image.
-use Rattle.std.specs.Prelude.{ℕ, zero, suc, List, [], ◌∷◌, map, take, filter, Bool, true, not, if◌then◌else◌, ◌==◌, ◌&&◌, ◌||◌, nat_lt, nat_le, nat_eq, bit_and, codes}
+use Rattle.std.specs.Prelude.{◌≡◌, ℕ, zero, suc, ◌+◌, ◌-◌, ◌*◌, ◌/◌, ◌%◌, ◌^◌, List, [], ◌∷◌, ◌++◌, length, map, take, filter, fold, cond, Bool, true, false, not, Option, Some, None, Contains, if◌then◌else◌, ◌==◌, ◌&&◌, ◌||◌, nat_lt, nat_le, nat_eq, bit_and, codes}
 use Rattle.std.specs.List.{range_with_len, flat_map, list_any, list_all}
 use Rattle.std.specs.Int.{w64, to_le_bytes}
 use Rattle.zo_layout.specs.Layout.{kernel_pages, owner_word, coffer_entry, coffer_state, coffer_uid, coffer_gid, coffer_mode, coffer_control, coffer_root, coffer_next, coffer_path_length, coffer_kind, coffer_path_word, path_bucket, bucket_of}

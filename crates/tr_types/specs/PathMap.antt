@@ -1,10 +1,10 @@
 -- The path map: which coffer a path lies in, what lies directly under a coffer, and which words of the tables change with it.
-use Rattle.std.specs.Prelude.{ℕ, ◌*◌, List, [], ◌∷◌, ◌++◌, length, map, take, drop, filter, fold, find, Bool, false, not, Option, Some, None, replicate, if◌then◌else◌, ◌==◌, nat_lt}
+use Rattle.std.specs.Prelude.{◌≡◌, ℕ, ◌+◌, ◌-◌, ◌*◌, ◌/◌, ◌<◌, List, [], ◌∷◌, ◌++◌, length, map, take, drop, filter, fold, find, Bool, true, false, not, Option, Some, None, MatchOption, replicate, if◌then◌else◌, ◌==◌, ◌&&◌, nat_lt}
 use Rattle.std.specs.List.{range_with_len, enumerate_from}
 use Rattle.std.specs.Int.{w64, from_le_bytes}
-use Rattle.zo_layout.specs.Layout.{coffer_entry, coffer_state, coffer_uid, coffer_root, coffer_next, path_bucket, bucket_of, word_of}
+use Rattle.zo_layout.specs.Layout.{coffer_entry, coffer_state, coffer_uid, coffer_gid, coffer_mode, coffer_root, coffer_next, path_bucket, bucket_of, word_of}
 use Rattle.tr_types.specs.Paths.{same_text, begins_with, lies_under}
-use Rattle.tr_types.specs.KernelTables.{Coffer, stands_in, path_in, chain_in, all_ids}
+use Rattle.tr_types.specs.KernelTables.{Coffer, coffers_in, ids_in, stands_in, path_in, chain_in, all_ids}
 use Rattle.tr_types.specs.declared.permission.Perm.{Perm}
 
 -- the coffer with the longer path
