@@ -1,5 +1,5 @@
 -- A coffer is added: what is read of its entry, and what the table keeps.
-use Rattle.std.proofs.Common.{◌≡◌, ℕ, ◌+◌, ◌<◌, ◌≤◌, ◌⊎◌, List, [], ◌∷◌, length, take, get_or, find, Some, Bool, true, false, not, ◌&&◌, cond, nat_le, refl, ap, sym, subst, ◌∙◌, inl, inr, arith, le-leb, ◌==◌, ◌||◌, codes, ne_eqb}
+use Rattle.std.proofs.Common.{◌≡◌, ℕ, ◌+◌, ◌<◌, ◌≤◌, ◌⊎◌, List, [], ◌∷◌, length, take, get_or, find, Some, Bool, true, false, not, ◌&&◌, cond, nat_le, refl, ap, sym, subst, ◌∙◌, inl, inr, arith, le-leb, ◌==◌, codes, ne_eqb}
 use Rattle.std.specs.List.{range_with_len, flat_map}
 use Rattle.std.specs.Int.{w64, to_le_bytes}
 use Rattle.std.proofs.lemmas.Bool.{cases_Bool, not-true, true≢false, or_right}
