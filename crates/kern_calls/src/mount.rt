@@ -34,10 +34,10 @@ pub struct Kernel {
 impl Kernel {
     /// Puts the kernel over an image of any content, and finishes what is committed in it.
     ///
-    /// `BadKernel` comes where a rule of the kernel's pages fails, with the place of the first one; it is
-    /// tried before anything is changed. That nothing is committed after is durable where something
-    /// was, or where it was durable before. `NoMemory` leaves the words as they are after some number of
-    /// the inner events that finish the committed pairs.
+    /// `BadKernel` comes where a rule of the kernel's pages fails, with the place of the first one. Such
+    /// an image keeps its words, also where memory runs out. That nothing is committed after is durable
+    /// where something was, or where it was durable before. `NoMemory` leaves the words as they are
+    /// after some number of the inner events that finish the committed pairs.
     pub fn mount(alloc: Global, words: &mut Words) -> Result<Kernel, MountFault>
         ensures ok { OnOk result (words.new ≡ made_all (redo_events words.old) words.old) }
         ensures sound { OnOk result (IsSoundKernel words.old) }
@@ -47,6 +47,7 @@ impl Kernel {
         ensures bad { (place : ℕ) → IsErrOf result (MountFault.BadKernel place) → IsFirstFault words.old place }
         ensures refuses { (place : ℕ) → IsFirstFault words.old place → IsErrOf result (MountFault.BadKernel place) ⊎ IsErrOf result MountFault.NoMemory }
         ensures unchanged { (place : ℕ) → IsErrOf result (MountFault.BadKernel place) → words.new ≡ words.old }
+        ensures untouched { (place : ℕ) → IsFirstFault words.old place → words.new ≡ words.old }
         ensures no_memory { IsErrOf result MountFault.NoMemory → IsCut (redo_events words.old) words.old words.new }
         ensures len { length words.new ≡ length words.old }
     {
