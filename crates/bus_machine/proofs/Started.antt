@@ -1,11 +1,14 @@
 -- Who was started.
 use Rattle.std.proofs.Common.{◌≡◌, ℕ, ◌<◌, List, [], ◌∷◌, ◌++◌, length, map, Bool, true, false, cond, refl, sym, ap, subst, ◌∙◌, ◌⊎◌, inl, inr, Option, Some, None, nat_eq, arith, suc, zero, slice_index_or}
-use Rattle.std.specs.Prelude.{Contains, is_some, ◌↔◌}
-use Rattle.std.specs.List.{Any}
-use Rattle.std.proofs.lemmas.List.{length-map, get_or-map}
+use Rattle.std.specs.Prelude.{Contains, is_some}
+use Rattle.std.specs.List.{list_any}
+use Rattle.std.proofs.lemmas.List.{map-append}
 use Rattle.std.proofs.lemmas.List.Elements.{Contains-push_cases}
-use Rattle.std.proofs.lemmas.Bool.{eq-eqb, eqb-true}
+use Rattle.std.proofs.lemmas.Bool.{eq-eqb, eqb-true, or_cases, or_left, or_right}
 use Rattle.tr_types.specs.Rights.{process_of}
+use Rattle.tr_types.specs.KernelCalls.{Callers}
+use Rattle.tr_types.specs.declared.permission.Cred.{Cred}
+use Rattle.kern_calls.specs.Calls.{has_process}
 use Rattle.bus_machine.specs.Ties.{AreSmall}
 
 -- the numbers of the threads
@@ -25,9 +28,9 @@ started ((t, p) ∷ threads) thread some = by (λ e. started threads thread e) (
     by rest false is some = later (rest some)
 
 -- and each one that was started has a process
-has_process : (threads : List (ℕ × ℕ)) (thread k : ℕ) → k < length (numbers threads) → slice_index_or (numbers threads) k thread ≡ thread → is_some (process_of threads thread) ≡ true
-has_process [] thread k lt at = absurd (omega arith)
-has_process ((t, p) ∷ threads) thread k lt at = by (λ j below is. has_process threads thread j below is) (nat_eq t thread) refl k lt at
+is_among : (threads : List (ℕ × ℕ)) (thread k : ℕ) → k < length (numbers threads) → slice_index_or (numbers threads) k thread ≡ thread → is_some (process_of threads thread) ≡ true
+is_among [] thread k lt at = absurd (omega arith)
+is_among ((t, p) ∷ threads) thread k lt at = by (λ j below is. is_among threads thread j below is) (nat_eq t thread) refl k lt at
   where
     by : ((j : ℕ) → j < length (numbers threads) → slice_index_or (numbers threads) j thread ≡ thread → is_some (process_of threads thread) ≡ true) → (b : Bool) → nat_eq t thread ≡ b → (k : ℕ) → k < length (numbers ((t, p) ∷ threads)) → slice_index_or (numbers ((t, p) ∷ threads)) k thread ≡ thread → is_some (cond b (Some p) (process_of threads thread)) ≡ true
     by rest true is k lt at = refl
@@ -35,7 +38,7 @@ has_process ((t, p) ∷ threads) thread k lt at = by (λ j below is. has_process
     by rest false is (suc k) lt at = rest k (omega arith) at
 
 pub not_started : (threads : List (ℕ × ℕ)) (thread : ℕ) → is_some (process_of threads thread) ≡ false → Contains (numbers threads) thread → ⊥
-not_started threads thread none (k, lt, at) = let yes = has_process threads thread k lt at in cc
+not_started threads thread none (k, lt, at) = let yes = is_among threads thread k lt at in cc
 
 pub no_process : (o : Option ℕ) → is_some o ≡ false → o ≡ None
 no_process None none = refl
@@ -54,44 +57,49 @@ process_more ((t, p) ∷ threads) thread process other some = by (λ e. process_
     by rest true some = inl refl
     by rest false some = rest some
 
--- a number among those of pairs
-pub among_numbers : {X : Type 0} (pairs : List (ℕ × X)) (n : ℕ) → Any (λ p. p.0 ≡ n) pairs → Contains (map (λ (p : ℕ × X). p.0) pairs) n
-among_numbers {X} pairs n (k, p, lt, at, is) =
-    (k, (let l = length-map pairs (λ (q : ℕ × X). q.0) in omega arith), get_or-map (λ (q : ℕ × X). q.0) pairs k p n lt ∙ ap (λ (q : ℕ × X). q.0) at ∙ is)
+-- Processes by their numbers.
 
-pub numbers_among : {X : Type 0} (pairs : List (ℕ × X)) (n : ℕ) → Contains (map (λ (p : ℕ × X). p.0) pairs) n → Any (λ p. p.0 ≡ n) pairs
-numbers_among {X} [] n (k, lt, at) = absurd (omega arith)
-numbers_among {X} (p ∷ pairs) n (zero, lt, at) = (0, p, (omega arith), refl, at)
-numbers_among {X} (p ∷ pairs) n (suc k, lt, at) = later (numbers_among pairs n (k, (omega arith), at))
+pub among_processes : (processes : List (ℕ × Cred)) (process : ℕ) → list_any (λ p. nat_eq p.0 process) processes ≡ true → Contains (map (λ p. p.0) processes) process
+among_processes [] process any = absurd cc
+among_processes (p ∷ processes) process any = by (or_cases (nat_eq p.0 process) (list_any (λ q. nat_eq q.0 process) processes) any) (among_processes processes process)
   where
-    later : Any (λ (q : ℕ × X). q.0 ≡ n) pairs → Any (λ (q : ℕ × X). q.0 ≡ n) (p ∷ pairs)
-    later (j, q, below, is, same) = (suc j, q, (omega arith), is, same)
+    later : Contains (map (λ q. q.0) processes) process → Contains (map (λ q. q.0) (p ∷ processes)) process
+    later (k, lt, at) = (suc k, (omega arith), at)
 
-pub tells_number : {X : Type 0} (pairs slice : List (ℕ × X)) (n : ℕ) (b : Bool) → slice ≡ pairs → ((b ≡ true) ↔ Any (λ p. p.0 ≡ n) slice) → (b ≡ true) ↔ Contains (map (λ (p : ℕ × X). p.0) pairs) n
-tells_number {X} pairs slice n b same tells = (
-  λ is. among_numbers pairs n (subst (λ (l : List (ℕ × X)). Any (λ (p : ℕ × X). p.0 ≡ n) l) same (tells.0 is)),
-  λ among. tells.1 (subst (λ (l : List (ℕ × X)). Any (λ (p : ℕ × X). p.0 ≡ n) l) (sym same) (numbers_among pairs n among)),
-)
+    by : (nat_eq p.0 process ≡ true) ⊎ (list_any (λ q. nat_eq q.0 process) processes ≡ true) → (list_any (λ q. nat_eq q.0 process) processes ≡ true → Contains (map (λ q. q.0) processes) process) → Contains (map (λ q. q.0) (p ∷ processes)) process
+    by (inl here) rest = (0, (omega arith), eqb-true p.0 process here)
+    by (inr there) rest = later (rest there)
+
+pub processes_among : (processes : List (ℕ × Cred)) (process : ℕ) → Contains (map (λ p. p.0) processes) process → list_any (λ p. nat_eq p.0 process) processes ≡ true
+processes_among [] process (k, lt, at) = absurd (omega arith)
+processes_among (p ∷ processes) process (zero, lt, at) = or_left (nat_eq p.0 process) (list_any (λ q. nat_eq q.0 process) processes) (eq-eqb p.0 process at)
+processes_among (p ∷ processes) process (suc k, lt, at) = or_right (nat_eq p.0 process) (list_any (λ q. nat_eq q.0 process) processes) (processes_among processes process (k, (omega arith), at))
+
+pub is_process : (callers : Callers) (process : ℕ) → has_process callers process ≡ true → Contains (map (λ p. p.0) callers.processes) process
+is_process callers process has = among_processes callers.processes process has
+
+pub no_such_process : (callers : Callers) (process : ℕ) → has_process callers process ≡ false → Contains (map (λ p. p.0) callers.processes) process → ⊥
+no_such_process callers process none among = let has = processes_among callers.processes process among in cc
 
 -- with one more process, and with one more thread
-pub small_process : (processes : List ℕ) (threads : List (ℕ × ℕ)) (pkrus : List ℕ) (process : ℕ) → AreSmall processes threads pkrus → process < 64 → AreSmall (processes ++ process ∷ []) threads pkrus
-small_process processes threads pkrus process small lt = record {
-  processes_small = λ p among. by p (Contains-push_cases processes process p among);
+pub small_process : (callers : Callers) (pkrus : List ℕ) (process : ℕ) (cred : Cred) → AreSmall callers pkrus → process < 64 → AreSmall (record { processes = callers.processes ++ (process, cred) ∷ []; threads = callers.threads }) pkrus
+small_process callers pkrus process cred small lt = record {
+  processes_small = λ p among. by p (Contains-push_cases (map (λ (q : ℕ × Cred). q.0) callers.processes) process p (subst (λ (l : List ℕ). Contains l p) (map-append (λ (q : ℕ × Cred). q.0) callers.processes ((process, cred) ∷ [])) among));
   threads_small = small.threads_small;
   registers = small.registers;
 }
   where
-    by : (p : ℕ) → Contains processes p ⊎ (process ≡ p) → p < 64
+    by : (p : ℕ) → Contains (map (λ (q : ℕ × Cred). q.0) callers.processes) p ⊎ (process ≡ p) → p < 64
     by p (inl before) = small.processes_small p before
     by p (inr same) = omega arith
 
-pub small_thread : (processes : List ℕ) (threads : List (ℕ × ℕ)) (pkrus : List ℕ) (thread process : ℕ) → AreSmall processes threads pkrus → thread < 256 → AreSmall processes (threads ++ (thread, process) ∷ []) pkrus
-small_thread processes threads pkrus thread process small lt = record {
+pub small_thread : (callers : Callers) (pkrus : List ℕ) (thread process : ℕ) → AreSmall callers pkrus → thread < 256 → AreSmall (record { processes = callers.processes; threads = callers.threads ++ (thread, process) ∷ [] }) pkrus
+small_thread callers pkrus thread process small lt = record {
   processes_small = small.processes_small;
-  threads_small = λ t some. by t (process_more threads thread process t some);
+  threads_small = λ t some. by t (process_more callers.threads thread process t some);
   registers = small.registers;
 }
   where
-    by : (t : ℕ) → (is_some (process_of threads t) ≡ true) ⊎ (nat_eq thread t ≡ true) → t < 256
+    by : (t : ℕ) → (is_some (process_of callers.threads t) ≡ true) ⊎ (nat_eq thread t ≡ true) → t < 256
     by t (inl before) = small.threads_small t before
     by t (inr same) = let is = eqb-true thread t same in omega arith

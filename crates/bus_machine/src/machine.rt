@@ -1,15 +1,15 @@
 // The machine as its callers have it.
-ghost use Rattle.std.specs.Prelude.{◌≡◌, ◌<◌, IfOk, MatchResult, Ok, Err, true, false};
-ghost use Rattle.pm_words.specs.Memory.{all_durable};
-ghost use Rattle.tr_types.specs.NewImage.{new_image};
-ghost use Rattle.tr_types.specs.KernelView.{pages_of};
-ghost use Rattle.tr_types.specs.Machine.{bus_over};
-ghost use Rattle.tr_types.specs.declared.action.Action.TheVariants.{Store};
+ghost use Rattle.std.specs.Prelude.{◌≡◌, ℕ, ◌<◌, ◌⊎◌, IfOk, OnOk, MatchResult, Ok, Err, true, false};
+ghost use Rattle.std.specs.Result.{IsErrOf};
+ghost use Rattle.tr_types.specs.KernelRules.{IsFirstFault, IsSoundKernel};
 ghost use Rattle.tr_types.specs.Machine.{IsBuilt};
+ghost use Rattle.tr_types.specs.declared.action.Action.TheVariants.{Store};
+ghost use Rattle.bus_machine.specs.Opening.{bus_opened, OpensAsIs};
 ghost use Rattle.bus_machine.specs.Calls.{StartsProcess, StartsThread, ActsAs};
 
 use crate::BusFault;
 use crate::parts::Parts;
+use kern_calls::MountFault;
 use pm_words::Words;
 use std::alloc::{AllocError, Global};
 use std::marker::Model;
@@ -39,11 +39,16 @@ impl Model for Machine {
 }
 
 impl Machine {
-    /// The machine over a new image, all of whose words are durable. Nothing is started.
-    pub fn open(alloc: Global, words: Words) -> Result<Machine, AllocError>
-        requires { words ≡ all_durable (new_image (pages_of words)) }
-        ensures bus { IfOk result (λ m. m.bus ≡ bus_over (new_image (pages_of words))) }
+    /// Puts the kernel over the words of an image of any content, and makes what it finishes there
+    /// durable. Nothing is started.
+    ///
+    /// `BadKernel` comes where a rule of the kernel's pages fails, with the place of the first one.
+    pub fn open(alloc: Global, words: Words) -> Result<Machine, MountFault>
+        ensures bus { IfOk result (λ m. m.bus ≡ bus_opened words) }
         ensures works { IfOk result (λ m. m.failed ≡ false) }
+        ensures sound { OnOk result (IsSoundKernel words) }
+        ensures bad { (place : ℕ) → IsErrOf result (MountFault.BadKernel place) → IsFirstFault words place }
+        ensures refuses { (place : ℕ) → IsFirstFault words place → IsErrOf result (MountFault.BadKernel place) ⊎ IsErrOf result MountFault.NoMemory }
     {
         Ok(Machine {
             parts: Parts::open(alloc, words)?,
@@ -61,7 +66,7 @@ impl Machine {
     /// Starts a process, which acts for a user. `Started` where it was started before.
     pub fn start_process(&mut self, process: u8, cred: Cred) -> Result<(), BusFault>
         requires { process < 64 }
-        ensures { StartsProcess self.old self.new process result }
+        ensures { StartsProcess self.old self.new process cred result }
     {
         if self.failed {
             return Err(BusFault::NoMemory);
@@ -92,29 +97,14 @@ impl Machine {
         noted(&mut self.failed, done)
     }
 
-    /// Does a step of a thread, and answers it. Addresses are in bytes; one that is no multiple of 8
-    /// inside the memory is not mapped. `NoThread` where the thread wasn't started.
+    /// Does a step of a thread at a tick, and answers it. Addresses are in bytes; one that is no multiple
+    /// of 8 inside the memory is not mapped. `NoThread` where the thread wasn't started.
     ///
-    /// A load, a store or a new PKRU costs the same whatever the machine holds; a map, an unmap and an
-    /// enlarging grow with the coffer's pages and holders.
-    pub fn act(&mut self, thread: u16, _now: u32, action: &Action) -> Result<Answer, BusFault>
+    /// A load, a store or a new PKRU costs the same whatever the machine holds; a kernel call costs what
+    /// its row needs.
+    pub fn act(&mut self, thread: u16, now: u32, action: &Action) -> Result<Answer, BusFault>
         requires { IsBuilt action.now }
-        ensures { ActsAs self.old self.new thread action.now result }
-    {
-        self.step(thread, action)
-    }
-
-    /// A store that the thread's program didn't mean, under the thread's present rights. `NoThread`
-    /// where the thread wasn't started.
-    pub fn stray(&mut self, thread: u16, addr: u64, word: u64) -> Result<Answer, BusFault>
-        ensures { ActsAs self.old self.new thread (Store addr word) result }
-    {
-        self.step(thread, &Action::Store(addr, word))
-    }
-
-    fn step(&mut self, thread: u16, action: &Action) -> Result<Answer, BusFault>
-        requires { IsBuilt action.now }
-        ensures { ActsAs self.old self.new thread action.now result }
+        ensures { ActsAs self.old self.new thread now action.now result }
     {
         if self.failed {
             return Err(BusFault::NoMemory);
@@ -122,8 +112,16 @@ impl Machine {
         if !self.parts.has_thread(thread) {
             return Err(BusFault::NoThread);
         }
-        let done = self.parts.act(thread, action);
+        let done = self.parts.act(thread, now, action);
         noted(&mut self.failed, done)
+    }
+
+    /// A store that the thread's program didn't mean, under the thread's present rights. `NoThread`
+    /// where the thread wasn't started.
+    pub fn stray(&mut self, thread: u16, addr: u64, word: u64) -> Result<Answer, BusFault>
+        ensures { ActsAs self.old self.new thread 0 (Store addr word) result }
+    {
+        self.act(thread, 0, &Action::Store(addr, word))
     }
 }
 
@@ -139,3 +137,8 @@ fn noted<T>(failed: &mut bool, done: Result<T, AllocError>) -> Result<T, BusFaul
         }
     }
 }
+
+/// Over durable words in which nothing is committed, a machine opens with these very words.
+pub fn open_law()
+    ensures { OpensAsIs }
+{}

@@ -1,16 +1,17 @@
-ghost use Rattle.std.specs.Prelude.{◌≡◌, ◌<◌, ◌+◌, length, IfOk, codes};
-ghost use Rattle.pm_words.specs.Memory.{all_durable};
-ghost use Rattle.tr_types.specs.NewImage as image;
-ghost use Rattle.tr_types.specs.KernelView.{pages_of};
-ghost use Rattle.tr_types.specs.Machine.{IsGiven};
-ghost use Rattle.tr_types.specs.Machine.{IsBuiltCall};
+// Images of 64 pages.
+ghost use Rattle.std.specs.Prelude.{◌≡◌, ◌<◌, ◌%◌, IfOk};
+ghost use Rattle.tr_types.specs.KernelCalls.{IsCall, IsOneRight, IsPathText};
 
 use super::*;
-use pm_words::{Image, Words};
+use kern_journal::new_image;
+use pm_words::NoMemory;
 use sqlite_items::Boxed;
 use std::alloc::{AllocError, Global};
 use std::test::Fail;
 use tr_types::{Action, Answer, Cred, FaultKind, Kcall, KernAnswer, Path, Right};
+
+/// Bytes of 64 pages.
+const BYTES: u64 = 262_144;
 
 /// The first word of the root directory.
 const ROOT_WORD: u64 = 159_744;
@@ -22,86 +23,9 @@ const OPEN_TO_LOADS: u32 = 0x5555_5558;
 
 const USER: Cred = Cred { uid: 0, gid: 0 };
 
-// Word `i` of a page of the new image of 64 pages.
-fn word_in_page(page: u32, i: u32) -> u64
-    ensures { result ≡ image.word_in_page 64 page i }
-{
-    if page == 0 {
-        superblock_word(i)
-    } else if page < 4 {
-        0
-    } else if page < 5 {
-        owner(i)
-    } else if page == 5 {
-        coffer_word(i)
-    } else if page == 37 {
-        bucket_word(i)
-    } else {
-        0
-    }
-}
-
-fn superblock_word(i: u32) -> u64
-    ensures { result ≡ image.superblock_word 64 i }
-{
-    match i {
-        0 => 6_436_300_633_531_568_724,
-        1 => 1,
-        2 => 64,
-        _ => 0,
-    }
-}
-
-fn owner(page: u32) -> u64
-    ensures { result ≡ image.owner_table_word 64 page }
-{
-    if page >= 64 {
-        0
-    } else if page < 38 {
-        65535
-    } else if page < 40 {
-        1
-    } else {
-        0
-    }
-}
-
-fn coffer_word(i: u32) -> u64
-    ensures { result ≡ image.coffer_word 64 i }
-{
-    match i {
-        0 => 1,
-        3 => 0o666,
-        4 => 38,
-        5 => 39,
-        7 => 1,
-        9 => u64::from(b'/'),
-        _ => 0,
-    }
-}
-
-fn bucket_word(i: u32) -> u64
-    ensures { result ≡ image.bucket_word i }
-{
-    if i == 254 { 1 } else { 0 }
-}
-
-// The memory of a new image of so many pages, which are 64.
-fn new_words(alloc: Global, pages: u32) -> Result<Words, AllocError>
-    requires { pages ≡ 64 }
-    ensures words { IfOk result (λ words. words ≡ all_durable (image.new_image pages)) }
-    ensures size { IfOk result (λ words. pages_of words ≡ pages) }
-{
-    let mut words = Vec::new(alloc);
-    for i in 0..512 * pages {
-        words.push(word_in_page(i / 512, i % 512))?;
-    }
-    Words::of_image(alloc, Image::new(words))
-}
-
 // Threads 0 and 1 in process 0, and thread 2 in process 1.
-fn with_three_threads(alloc: Global) -> Result<Machine, BusFault> {
-    let mut machine = Machine::open(alloc, new_words(alloc, 64)?)?;
+fn with_three_threads(alloc: Global) -> Result<Machine, Fail> {
+    let mut machine = Machine::open(alloc, new_image(alloc, 64)?)?;
     machine.start_process(0, USER)?;
     machine.start_process(1, USER)?;
     machine.start_thread(0, 0)?;
@@ -120,7 +44,7 @@ fn store(machine: &mut Machine, thread: u16) -> Result<Answer, BusFault> {
 
 // A kernel call of thread 0.
 fn ask(machine: &mut Machine, alloc: Global, call: Kcall) -> Result<KernAnswer, BusFault>
-    requires { IsBuiltCall call }
+    requires { IsCall call }
 {
     let action = Action::Kernel(Boxed::new(alloc, call)?);
     match machine.act(0, 0, &action)? {
@@ -130,13 +54,13 @@ fn ask(machine: &mut Machine, alloc: Global, call: Kcall) -> Result<KernAnswer, 
 }
 
 fn root(alloc: Global) -> Result<Path, AllocError>
-    ensures { IfOk result (λ path. path ≡ codes "/") }
+    ensures { IfOk result IsPathText }
 {
     Ok(Path::new(Vec::from_slice(alloc, b"/")?))
 }
 
 fn map(machine: &mut Machine, alloc: Global, right: Right) -> Result<KernAnswer, BusFault>
-    requires { IsGiven right }
+    requires { IsOneRight right }
 {
     let call = Kcall::Map {
         path: root(alloc)?,
@@ -147,8 +71,8 @@ fn map(machine: &mut Machine, alloc: Global, right: Right) -> Result<KernAnswer,
 }
 
 // A machine with the root coffer mapped by thread 0, and its register.
-fn with_window(alloc: Global, right: Right, pkru: u32) -> Result<Machine, BusFault>
-    requires { IsGiven right }
+fn with_window(alloc: Global, right: Right, pkru: u32) -> Result<Machine, Fail>
+    requires { IsOneRight right }
 {
     let mut machine = with_three_threads(alloc)?;
     map(&mut machine, alloc, right)?;
@@ -168,6 +92,61 @@ fn word_of(answer: Result<Answer, BusFault>) -> Option<u64> {
         Ok(Answer::Word(word)) => Some(word),
         _ => None,
     }
+}
+
+#[test]
+fn an_image_without_its_signature_is_damaged_at_word_0(rt: HostRuntime) -> Result<(), Fail> {
+    let mut words = new_image(rt.alloc(), 64)?;
+    words.store(0, 1)?;
+    let fault = Machine::open(rt.alloc(), words).err();
+    assert_eq!(rt; fault, Some(MountFault::BadKernel(0)));
+    Ok(())
+}
+
+// A machine over a new image in which these words (address, word) were stored.
+fn over(alloc: Global, pairs: &[(u64, u64)]) -> Result<Machine, Fail> {
+    let mut words = new_image(alloc, 64)?;
+    for &(addr, word) in pairs {
+        if addr % 8 == 0 && addr < BYTES {
+            words.store(addr, word)?;
+        }
+    }
+    Ok(Machine::open(alloc, words)?)
+}
+
+// What a crash may leave in a word, the word itself last.
+fn pending(machine: &Machine, addr: u64) -> Result<Vec<u64>, NoMemory>
+    requires aligned { addr % 8 ≡ 0 }
+    requires inside { addr < 262144 }
+{
+    let words = machine.words();
+    let _pages = words.pages();
+    words.pending(addr)
+}
+
+// The journal says that word 0 of page 40 becomes 7.
+#[test]
+fn what_is_committed_is_finished(rt: HostRuntime) -> Result<(), Fail> {
+    let machine = over(rt.alloc(), &[(4096, 1), (4160, 163_840), (4168, 7)])?;
+    let count = pending(&machine, 4096)?;
+    let word = pending(&machine, 163_840)?;
+    assert_eq!(rt; count.as_slice(), [0].as_slice());
+    assert_eq!(rt; word.as_slice(), [7].as_slice());
+    Ok(())
+}
+
+// Word 0 of the journal has been 1, and so has word 0 of page 40.
+#[test]
+fn that_nothing_is_committed_is_made_durable(rt: HostRuntime) -> Result<(), Fail> {
+    let machine = over(
+        rt.alloc(),
+        &[(4096, 1), (4096, 0), (163_840, 1), (163_840, 0)],
+    )?;
+    let count = pending(&machine, 4096)?;
+    let word = pending(&machine, 163_840)?;
+    assert_eq!(rt; count.as_slice(), [0].as_slice());
+    assert_eq!(rt; word.as_slice(), [0, 1, 0].as_slice());
+    Ok(())
 }
 
 #[test]

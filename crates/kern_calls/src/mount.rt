@@ -1,16 +1,24 @@
 // The kernel over the words of an image.
-ghost use Rattle.std.specs.Prelude.{◌≡◌, ◌≢◌, ◌⊎◌, ℕ, [], length, OnOk};
+ghost use Rattle.std.specs.Prelude.{◌≡◌, ◌≢◌, ◌⊎◌, ℕ, [], length, slice_index, OnOk, IfOk};
 ghost use Rattle.std.specs.Result.{IsErrOf};
 ghost use Rattle.zo_layout.specs.Layout.{committed_word};
 ghost use Rattle.pm_words.specs.Memory.{word_at};
 ghost use Rattle.tr_types.specs.Journal.{committed_count};
 ghost use Rattle.tr_types.specs.KernelRules.{IsFirstFault, IsSoundKernel};
-ghost use Rattle.kern_journal.specs.Inner.{made_all, IsCut};
-ghost use Rattle.kern_journal.specs.Journal.{redo_events};
-ghost use Rattle.kern_journal.specs.Law.{IsDurable};
+ghost use Rattle.tr_types.specs.Inner.{made_all, IsCut};
+ghost use Rattle.tr_types.specs.Inner.{redo_events};
+ghost use Rattle.tr_types.specs.JournalLaws.{IsDurable};
+ghost use Rattle.tr_types.specs.KernelCalls.{Callers};
+ghost use Rattle.kern_pages.specs.Owners.{owners_of};
+ghost use Rattle.tr_types.specs.KernelView.{pages_of};
+ghost use Rattle.kern_calls.specs.Calls.{KernelView, IsMounted};
+ghost use Rattle.kern_calls.specs.Parts.{coffer_or_none};
 
+use crate::kernel::{Kernel, coffer_or_none};
 use kern_journal::{redo, view_law};
+use kern_pages::{Owners, owners_law};
 use kern_view::first_fault;
+use page_rights::Tables;
 use pm_words::{NoMemory, Words};
 use std::alloc::Global;
 use thiserror::Error;
@@ -23,12 +31,6 @@ pub enum MountFault {
     BadKernel(u64),
     #[error("out of memory")]
     NoMemory,
-}
-
-/// The kernel over the words of an image, on which it was mounted.
-#[derive(Drop)]
-pub struct Kernel {
-    alloc: Global,
 }
 
 impl Kernel {
@@ -49,6 +51,9 @@ impl Kernel {
         ensures unchanged { (place : ℕ) → IsErrOf result (MountFault.BadKernel place) → words.new ≡ words.old }
         ensures untouched { (place : ℕ) → IsFirstFault words.old place → words.new ≡ words.old }
         ensures no_memory { IsErrOf result MountFault.NoMemory → IsCut (redo_events words.old) words.old words.new }
+        ensures fresh { IfOk result (λ kernel. (kernel.callers ≡ record { processes = []; threads = [] }) × (kernel.holders ≡ [])) }
+        ensures told { IfOk result (λ kernel. kernel.owners ≡ owners_of words.new) }
+        ensures mounted { IfOk result (λ kernel. IsDurable words.new committed_word 0 → IsMounted kernel words.new) }
         ensures len { length words.new ≡ length words.old }
     {
         match first_fault(alloc, words) {
@@ -59,8 +64,43 @@ impl Kernel {
         // Finishing the pairs changes nothing of what the kernel reads.
         view_law();
         match redo(alloc, words) {
-            Ok(()) => Ok(Kernel { alloc }),
+            Ok(()) => {}
+            Err(_) => return Err(MountFault::NoMemory),
+        }
+        match Kernel::over(alloc, words) {
+            Ok(kernel) => Ok(kernel),
             Err(_) => Err(MountFault::NoMemory),
         }
     }
+
+    // Over words of which no rule of the kernel's pages fails, with nothing started.
+    fn over(alloc: Global, words: &Words) -> Result<Kernel, NoMemory>
+        requires { IsSoundKernel words.now }
+        ensures { IfOk result (λ kernel. kernel ≡ record { callers = record { processes = []; threads = [] }; holders = []; owners = owners_of words.now }) }
+    {
+        owners_law();
+        let owners = Owners::of_words(alloc, words)?;
+        let tables = new_tables(alloc, words, &owners)?;
+        Ok(Kernel {
+            alloc,
+            processes: Vec::new(alloc),
+            tables,
+            owners,
+        })
+    }
+}
+
+// Tables of rights with nothing started, in which each page stands under its coffer.
+fn new_tables(alloc: Global, words: &Words, owners: &Owners) -> Result<Tables, NoMemory>
+    requires { length owners.now ≡ pages_of words.now }
+    ensures threads { IfOk result (λ tables. tables.threads ≡ []) }
+    ensures holders { IfOk result (λ tables. tables.holders ≡ []) }
+    ensures count { IfOk result (λ tables. length tables.owners ≡ length owners.now) }
+    ensures stands { IfOk result (λ tables. (page : ℕ) → slice_index tables.owners page ≡ coffer_or_none (slice_index owners.now page)) }
+{
+    let mut tables = Tables::new(alloc, words.pages())?;
+    for page in 0..words.pages() {
+        tables.add_pages(coffer_or_none(owners.owner(page)), &[page])?;
+    }
+    Ok(tables)
 }

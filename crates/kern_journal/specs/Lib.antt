@@ -2,5 +2,3 @@
 pub mod Inner
 -- the journal's pairs, what is committed, and what the kernel reads
 pub mod Journal
--- what crashes inside leave
-pub mod Law

@@ -1,39 +1,27 @@
-// The single steps that the journal makes.
+// Making the kernel's single steps.
 ghost use Rattle.std.specs.Prelude.{◌≡◌, ℕ, length, All, OnOk, OnErr};
 ghost use Rattle.pm_words.specs.Memory.{IsAddress};
-ghost use Rattle.kern_journal.specs.Inner.{made, made_all, IsCut, HasAddress};
+ghost use Rattle.tr_types.specs.Inner.{made, made_all, IsCut, HasAddress};
 
 use pm_words::{NoMemory, Words};
+use tr_types::Inner;
 
 /// The number under which the kernel flushes and fences. It is no thread's.
 const KERNEL_THREAD: u16 = 256;
 
-/// One step that the kernel makes in the memory. Between two of them a crash may come.
-#[derive(Clone, Copy, Debug, PartialEq, Eq)]
-pub enum Inner {
-    /// A value is stored in the word at a byte address.
-    Store { addr: u64, value: u64 },
-    /// The line of 64 bytes that a byte address is in is flushed.
-    Flush { addr: u64 },
-    /// What was flushed becomes durable.
-    Fence,
-}
-
-impl Inner {
-    /// Makes the step. An error leaves the memory as it was.
-    pub fn make(self, words: &mut Words) -> Result<(), NoMemory>
-        requires { HasAddress (length words.old) self }
-        ensures ok { OnOk result (words.new ≡ made words.old self) }
-        ensures err { OnErr result (words.new ≡ words.old) }
-        ensures len { length words.new ≡ length words.old }
-    {
-        match self {
-            Inner::Store { addr, value } => words.store(addr, value),
-            Inner::Flush { addr } => words.flush(KERNEL_THREAD, addr),
-            Inner::Fence => {
-                words.fence(KERNEL_THREAD);
-                Ok(())
-            }
+// Makes the step. An error leaves the memory as it was.
+fn make(words: &mut Words, event: Inner) -> Result<(), NoMemory>
+    requires { HasAddress (length words.old) event }
+    ensures ok { OnOk result (words.new ≡ made words.old event) }
+    ensures err { OnErr result (words.new ≡ words.old) }
+    ensures len { length words.new ≡ length words.old }
+{
+    match event {
+        Inner::Store { addr, value } => words.store(addr, value),
+        Inner::Flush { addr } => words.flush(KERNEL_THREAD, addr),
+        Inner::Fence => {
+            words.fence(KERNEL_THREAD);
+            Ok(())
         }
     }
 }
@@ -46,7 +34,7 @@ pub fn make_all(words: &mut Words, events: &[Inner]) -> Result<(), NoMemory>
     ensures len { length words.new ≡ length words.old }
 {
     for &event in events {
-        event.make(words)?;
+        make(words, event)?;
     }
     Ok(())
 }

@@ -13,8 +13,9 @@ mod journal;
 mod laws;
 mod lines;
 
+pub use events::journal_events;
 pub use image::new_image;
-pub use inner::Inner;
+pub use inner::make_all;
 pub use journal::{
     JournalFault, apply, apply_first, capacity, committed, committed_count, kernel_word, redo,
 };

@@ -1,8 +1,8 @@
 -- A coffer is added: what is read of its entry, and what the table keeps.
-use Rattle.std.proofs.Common.{◌≡◌, ℕ, ◌+◌, ◌<◌, ◌≤◌, ◌⊎◌, List, [], ◌∷◌, length, take, get_or, find, Some, Bool, true, false, not, ◌&&◌, cond, nat_le, refl, ap, sym, subst, ◌∙◌, inl, inr, arith, le-leb}
+use Rattle.std.proofs.Common.{◌≡◌, ℕ, ◌+◌, ◌<◌, ◌≤◌, ◌⊎◌, List, [], ◌∷◌, length, take, get_or, find, Some, Bool, true, false, not, ◌&&◌, cond, nat_le, refl, ap, sym, subst, ◌∙◌, inl, inr, arith, le-leb, ◌==◌, codes, ne_eqb}
 use Rattle.std.specs.List.{range_with_len, flat_map}
 use Rattle.std.specs.Int.{w64, to_le_bytes}
-use Rattle.std.proofs.lemmas.Bool.{cases_Bool, not-true}
+use Rattle.std.proofs.lemmas.Bool.{cases_Bool, not-true, true≢false, or_right}
 use Rattle.std.proofs.lemmas.Option.{same_Some}
 use Rattle.std.proofs.lemmas.Cmp.{nat_list_eq_equiv}
 use Rattle.std.proofs.lemmas.List.{get_or-append-add}
@@ -11,7 +11,7 @@ use Rattle.zo_layout.specs.Layout.{word_of, coffer_entry, coffer_state, coffer_p
 use Rattle.tr_types.specs.Paths.{same_text, is_path_text}
 use Rattle.tr_types.specs.Journal.{laid_over}
 use Rattle.tr_types.specs.Kernel.{read_after}
-use Rattle.tr_types.specs.KernelTables.{Coffer, all_ids, is_there, is_in_chain, stands_in, path_in, path_bytes, coffer_in}
+use Rattle.tr_types.specs.KernelTables.{Coffer, all_ids, is_there, is_in_chain, stands_in, path_in, path_bytes, coffer_in, path_fails, entry_fails}
 use Rattle.tr_types.specs.PathMap.{free_id, entry_words, text_words, from_address, added_pairs}
 use Rattle.kern_roots.specs.Changes.{is_taken}
 use Rattle.kern_roots.specs.Laws.{AddLaw}
@@ -21,7 +21,7 @@ use Rattle.kern_roots.proofs.ChangingLayout.{first_word, same_entry_word, entry_
 use Rattle.kern_roots.proofs.ChangingReads.{laid_append, laid_past, laid_one, laid_miss, laid_hit}
 use Rattle.kern_roots.proofs.ChangingLists.{id_in_all, all_are_ids, in_first, in_rest, not_passed}
 use Rattle.kern_roots.proofs.ChangingChain.{bucket_below}
-use Rattle.kern_roots.proofs.ChangingEntries.{same_coffer, flat_same}
+use Rattle.kern_roots.proofs.ChangingEntries.{same_coffer, flat_same, right_passes, twice_from, free_rule, same_path_in, same_state}
 use Rattle.kern_roots.proofs.ChangingText.{chunk, word_bytes, chunks_are}
 use Rattle.kern_roots.proofs.ChangingSets.{OthersStay, others_pass}
 use Rattle.kern_roots.proofs.ChangingAdd.{arrived}
@@ -130,17 +130,28 @@ new_coffer pages after c next text short own =
     λ i. record { id = c.id; path = path i; perm = record { uid = uid i; gid = gid i; mode = mode i }; state = state i; kind = kind i; control = control i; root = root i }
 
 -- no coffer that is there has the new path
+not_taken : (pages : ℕ) (at : ℕ → ℕ) (path : List ℕ) (other : ℕ) → is_taken pages at path ≡ false → 1 ≤ other → other ≤ 256 → stands_in pages at other ≡ true
+    → same_text (path_in pages at other) path ≡ false
+not_taken pages at path other fresh l m s =
+    sym (ap (λ (b : Bool). b && same_text (path_in pages at other) path) s)
+    ∙ not_passed (has_path_at pages at path) all_ids other (sym (taken_by_ids pages at path) ∙ fresh) (id_in_all other l m)
+
 not_same : (pages : ℕ) (at : ℕ → ℕ) (path : List ℕ) (other : ℕ) → is_taken pages at path ≡ false → 1 ≤ other → other ≤ 256 → stands_in pages at other ≡ true
     → same_text path (path_in pages at other) ≡ false
-not_same pages at path other fresh l m s =
-    nat_list_eq_equiv.symm path (path_in pages at other)
-    ∙ sym (ap (λ (b : Bool). b && same_text (path_in pages at other) path) s)
-    ∙ not_passed (has_path_at pages at path) all_ids other (sym (taken_by_ids pages at path) ∙ fresh) (id_in_all other l m)
+not_same pages at path other fresh l m s = nat_list_eq_equiv.symm path (path_in pages at other) ∙ not_taken pages at path other fresh l m s
+
+-- the root coffer is always there, so that its number is never free
+not_first : (pages : ℕ) (at : ℕ → ℕ) (id : ℕ) → entry_fails pages at 1 ≡ false → stands_in pages at id ≡ false → id ≡ 1 → ⊥
+not_first pages at id passes free e =
+    true≢false (sym (free_rule pages at 1 (sym (ap (stands_in pages at) e) ∙ free) ∙ or_right (not (at (coffer_state (coffer_entry pages 1)) == 0)) true refl) ∙ passes)
 
 pub add_is : AddLaw
 add_is pages at after c passes new same keeps = (
   new_coffer pages after c next new.path new.short own,
   record {
+    own = λ right. right_passes pages after c.id there right ruled
+        (twice_from pages after c.id (λ x lx mx s ne. ap (same_text (path_in pages after x)) path ∙ once x lx mx s ne))
+        (ap (λ (b : Bool). b && not (same_text (path_in pages after c.id) (codes "/"))) (ne_eqb c.id 1 (not_first pages at c.id (passes.entries 1 (omega arith) (omega arith)) f.free)));
     others = λ other lo mo ne. same_coffer pages at after other (others other lo mo ne);
     entries = others_pass pages at after c.id passes keeps others
         (λ other lo mo ne s there. ap (λ (path : List ℕ). same_text path (path_in pages at other)) path ∙ not_same pages at c.path other new.fresh lo mo s);
@@ -148,7 +159,7 @@ add_is pages at after c passes new same keeps = (
       least = f.least;
       most = f.most;
       free = f.free;
-      there = ap is_there (ap after (sym (first_word (coffer_entry pages c.id))) ∙ own 0 (omega arith)) ∙ new.there;
+      there = there;
       hashed = ap bucket_of path;
       others = others;
       nexts = λ other lo mo ne. same.entries other 6 lo mo (omega arith) ∙ other_word pages at c f.least other 6 lo mo ne (omega arith);
@@ -176,3 +187,18 @@ add_is pages at after c passes new same keeps = (
 
     others : OthersStay pages c.id at after
     others other lo mo ne i h next = same.entries other i lo mo h ∙ other_word pages at c f.least other i lo mo ne h
+
+    there : stands_in pages after c.id ≡ true
+    there = ap is_there (ap after (sym (first_word (coffer_entry pages c.id))) ∙ own 0 (omega arith)) ∙ new.there
+
+    ruled : path_fails pages after c.id ≡ false
+    ruled =
+        ap (λ (n : ℕ). not (nat_le n 440 && is_path_text (path_in pages after c.id))) (own 7 (omega arith))
+        ∙ ap (λ (b : Bool). not (b && is_path_text (path_in pages after c.id))) (le-leb (length c.path) 440 new.short)
+        ∙ ap (λ (text : List ℕ). not (is_path_text text)) path
+        ∙ ap not new.path
+
+    once : (x : ℕ) → 1 ≤ x → x ≤ 256 → stands_in pages after x ≡ true → (x ≡ c.id → ⊥) → same_text (path_in pages after x) c.path ≡ false
+    once x lx mx s ne =
+        ap (λ (text : List ℕ). same_text text c.path) (same_path_in pages at after x (λ i g h. others x lx mx ne i h (omega arith)))
+        ∙ not_taken pages at c.path x new.fresh lx mx (sym (ap is_there (same_state pages at after x (others x lx mx ne))) ∙ s)

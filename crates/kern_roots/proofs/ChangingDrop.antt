@@ -5,7 +5,7 @@ use Rattle.std.proofs.lemmas.List.{get_or-replicate, length-replicate}
 use Rattle.zo_layout.specs.Layout.{word_of, coffer_entry, coffer_state, coffer_next, path_bucket, bucket_of}
 use Rattle.tr_types.specs.Journal.{laid_over}
 use Rattle.tr_types.specs.Kernel.{read_after}
-use Rattle.tr_types.specs.KernelTables.{is_there, stands_in, path_in, chain_in, longest_chain, is_in_chain, none_twice, belongs, bucket_fails}
+use Rattle.tr_types.specs.KernelTables.{is_there, stands_in, path_in, chain_in, longest_chain, is_in_chain, none_twice, belongs, bucket_fails, entry_fails}
 use Rattle.tr_types.specs.PathMap.{leading_word, no_words, from_address, with_pair, dropped_pairs}
 use Rattle.kern_roots.specs.Laws.{PassesRoots, DropLaw}
 use Rattle.kern_roots.proofs.ChangingPairs.{placed}
@@ -221,8 +221,9 @@ leading_read pages at id l m lead =
 pub drop_is : DropLaw
 drop_is pages at after id passes has ne same keeps = (
   gone,
-  free_rule pages after id gone ∙ ap (λ (n : ℕ). not (n == 0) || (id == 1)) cleared ∙ ne_eqb id 1 ne,
+  own,
   record {
+    own = λ right. own;
     others = λ other lo mo other_id. same_coffer pages at after other (others other lo mo other_id);
     entries = others_pass pages at after id passes keeps others (λ other lo mo other_id s there. absurd (true≢false (sym there ∙ gone)));
     buckets = went pages id at after goes lead passes;
@@ -277,3 +278,6 @@ drop_is pages at after id passes has ne same keeps = (
           same.buckets b h
           ∙ other_read pages at id (path_bucket pages b) (λ i g e. entry_not_bucket pages id i b r.0 r.1 g e) (λ e. elsewhere (sym e));
     }
+
+    own : entry_fails pages after id ≡ false
+    own = free_rule pages after id gone ∙ ap (λ (n : ℕ). not (n == 0) || (id == 1)) cleared ∙ ne_eqb id 1 ne

@@ -1,12 +1,13 @@
 -- Entries of the coffer table: what the same words say, and when an entry passes after a change of another one.
-use Rattle.std.proofs.Common.{◌≡◌, ℕ, zero, suc, ◌+◌, ◌<◌, ◌≤◌, ◌⊎◌, List, [], ◌++◌, take, Bool, true, false, not, ◌&&◌, ◌||◌, cond, ◌==◌, nat_le, nat_lt, codes, refl, ap, sym, ◌∙◌, inl, inr, arith, eq-eqb, ne_eqb}
+use Rattle.std.proofs.Common.{◌≡◌, ℕ, zero, suc, ◌+◌, ◌<◌, ◌≤◌, ◌⊎◌, List, [], ◌++◌, take, Bool, true, false, not, ◌&&◌, ◌||◌, cond, ◌==◌, nat_le, nat_lt, codes, refl, ap, sym, ◌∙◌, inl, inr, arith, eq-eqb, ne_eqb, le-leb}
 use Rattle.std.specs.List.{range_with_len, flat_map}
 use Rattle.std.specs.Int.{w64, to_le_bytes}
-use Rattle.std.proofs.lemmas.Bool.{cases_Bool, or_parts, or_from, cases_eq}
+use Rattle.std.proofs.lemmas.Bool.{cases_Bool, or_parts, or_from, cases_eq, and_from}
 use Rattle.zo_layout.specs.Layout.{word_of, coffer_entry, coffer_state, coffer_path_word, coffer_path_length}
 use Rattle.tr_types.specs.Paths.{same_text, is_path_text}
-use Rattle.tr_types.specs.KernelTables.{Coffer, owner_in, is_there, stands_in, path_bytes, path_in, coffer_in, all_ids, ids_in, is_mode, path_fails, pages_fail, path_stands_twice, coffer_fails, entry_fails}
+use Rattle.tr_types.specs.KernelTables.{Coffer, owner_in, is_there, stands_in, path_bytes, path_in, coffer_in, all_ids, ids_in, is_mode, path_fails, pages_fail, path_stands_twice, coffer_fails, entry_fails, owns}
 use Rattle.kern_roots.specs.Changes.{is_used}
+use Rattle.kern_roots.specs.Laws.{IsRight}
 use Rattle.kern_roots.proofs.ChangingSearch.{used_is, range_of}
 use Rattle.kern_roots.proofs.ChangingLayout.{first_word}
 use Rattle.kern_roots.proofs.ChangingLists.{id_in_all, all_are_ids, in_filter, from_filter, none_passes, not_passed}
@@ -96,10 +97,10 @@ six_from a p k g t r h1 h2 h3 h4 h5 h6 = or_from _ r (or_from _ t (or_from _ g (
 
 -- the rule of an entry that is there, and of one that isn't
 
-abbrev perm_fails : Coffer → Bool
+abbrev pub perm_fails : Coffer → Bool
 perm_fails c = not (nat_le c.perm.uid 4294967295) || not (nat_le c.perm.gid 4294967295) || not (is_mode c.perm.mode)
 
-abbrev root_fails : Coffer → Bool
+abbrev pub root_fails : Coffer → Bool
 root_fails c = (c.id == 1) && not (same_text c.path (codes "/"))
 
 there_rule : (pages : ℕ) (at : ℕ → ℕ) (id : ℕ) → stands_in pages at id ≡ true → entry_fails pages at id ≡ coffer_fails pages at (coffer_in pages at id)
@@ -165,3 +166,24 @@ passes_again pages at after id same control root once h = by (cases_Bool (stands
         ∙ ap (λ (n : ℕ). not (n == 0) || (id == 1)) state
         ∙ sym (free_rule pages at id s)
         ∙ h
+
+-- An entry that is there passes where its coffer is right, its path is one, no other coffer has the path, and the first
+-- entry's is `/`.
+pub right_passes : (pages : ℕ) (at : ℕ → ℕ) (id : ℕ) → stands_in pages at id ≡ true → IsRight pages at (coffer_in pages at id) → path_fails pages at id ≡ false
+    → path_stands_twice pages at id ≡ false → root_fails (coffer_in pages at id) ≡ false → entry_fails pages at id ≡ false
+right_passes pages at id s right path once named =
+    let c = coffer_in pages at id in
+    entry_from pages at id s (record {
+      perm =
+          or_from (not (nat_le c.perm.uid 4294967295) || not (nat_le c.perm.gid 4294967295)) (not (is_mode c.perm.mode))
+          (or_from (not (nat_le c.perm.uid 4294967295)) (not (nat_le c.perm.gid 4294967295)) (ap not (le-leb c.perm.uid 4294967295 right.uid)) (ap not (le-leb c.perm.gid 4294967295 right.gid)))
+          (ap not right.mode);
+      path = path;
+      kind = ap not (eq-eqb c.kind 0 right.kind);
+      owned =
+          or_from (not (owns pages at id c.control && owns pages at id c.root)) (c.control == c.root)
+          (ap not (and_from (owns pages at id c.control) (owns pages at id c.root) right.control right.root))
+          (ne_eqb c.control c.root right.apart);
+      once = once;
+      named = named;
+    })

@@ -1,12 +1,11 @@
 -- The addresses of a change rise.
-use Rattle.std.proofs.Common.{◌≡◌, ℕ, zero, suc, ◌+◌, ◌-◌, ◌<◌, ◌≤◌, ◌⊎◌, List, [], ◌∷◌, ◌++◌, length, get_or, Bool, true, false, cond, nat_lt, refl, ap, sym, subst, ◌∙◌, inl, inr, arith}
-use Rattle.std.specs.List.{AllByRecursion, AllPairs}
+use Rattle.std.proofs.Common.{◌≡◌, ℕ, zero, suc, ◌+◌, ◌<◌, ◌≤◌, ◌⊎◌, List, [], ◌∷◌, ◌++◌, length, Bool, true, false, cond, nat_lt, sym, subst, inl, inr, arith}
+use Rattle.std.specs.List.{AllByRecursion}
 use Rattle.std.proofs.lemmas.Bool.{cases_Bool, ltb-true, ltb-false}
 use Rattle.std.proofs.lemmas.List.Elements.{All-from_recursion}
-use Rattle.zo_layout.specs.Layout.{word_of, coffer_entry, coffer_uid, coffer_state, coffer_root, path_bucket, bucket_of}
-use Rattle.tr_types.specs.declared.permission.Perm.{Perm}
+use Rattle.zo_layout.specs.Layout.{word_of, coffer_entry, coffer_uid, path_bucket, bucket_of}
 use Rattle.tr_types.specs.KernelTables.{Coffer, path_in}
-use Rattle.tr_types.specs.PathMap.{entry_words, from_address, with_pair, no_words, leading_word, added_pairs, dropped_pairs, perm_pairs}
+use Rattle.tr_types.specs.PathMap.{entry_words, with_pair, no_words, leading_word, added_pairs, dropped_pairs, perm_pairs}
 use Rattle.kern_roots.specs.Laws.{PassesRoots, AreInOrder, OrderLaw}
 use Rattle.kern_roots.proofs.ChangingPairs.{placed}
 use Rattle.kern_roots.proofs.ChangingLayout.{bucket_behind}

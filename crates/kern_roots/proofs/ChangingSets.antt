@@ -1,5 +1,5 @@
 -- A change of one entry: what the others keep. Then the changes of some fields before the chain's word.
-use Rattle.std.proofs.Common.{◌≡◌, ℕ, get_or, ◌+◌, ◌<◌, ◌≤◌, ◌⊎◌, List, [], ◌∷◌, true, false, refl, ap, sym, subst, ◌∙◌, inl, inr, arith}
+use Rattle.std.proofs.Common.{◌≡◌, ℕ, get_or, ◌+◌, ◌<◌, ◌≤◌, ◌⊎◌, List, [], ◌∷◌, true, false, refl, ap, sym, subst, ◌∙◌, inl, inr, arith, ◌==◌, ◌&&◌, not, codes}
 use Rattle.std.specs.List.{AllByRecursion}
 use Rattle.std.proofs.lemmas.Bool.{cases_eq}
 use Rattle.zo_layout.specs.Layout.{word_of, coffer_entry, coffer_state, path_bucket, bucket_of}
@@ -13,7 +13,7 @@ use Rattle.kern_roots.proofs.ChangingSearch.{there_at}
 use Rattle.kern_roots.proofs.ChangingLayout.{first_word, word_in_part, same_entry_word, entry_not_bucket}
 use Rattle.kern_roots.proofs.ChangingReads.{laid_past, laid_one, laid_hit}
 use Rattle.kern_roots.proofs.ChangingChain.{next_in}
-use Rattle.kern_roots.proofs.ChangingEntries.{SameEntry, SamePath, same_state, same_path_in, same_coffer, coffer_is_there, twice_from, twice_at, entry_parts, passes_again}
+use Rattle.kern_roots.proofs.ChangingEntries.{SameEntry, SamePath, same_state, same_path_in, same_coffer, coffer_is_there, twice_from, twice_at, entry_parts, passes_again, Entry, right_passes, same_path_rule}
 use Rattle.kern_roots.proofs.ChangingBuckets.{belongs_parts, belongs_from}
 use Rattle.kern_roots.proofs.ChangingMoves.{bucket_stays}
 
@@ -59,6 +59,9 @@ pub record Touches (pages id : ℕ) (at after : ℕ → ℕ) : Type 0 where
 
 pub touched : (pages id : ℕ) (at after : ℕ → ℕ) → PassesRoots pages at → KeepsOwners pages id at after → Touches pages id at after → ChangesOne pages id at after
 touched pages id at after passes keeps t = record {
+  own = λ right. right_passes pages after id t.there right (same_path_rule pages at after id t.path ∙ before.path)
+      (twice_from pages after id (λ x l m s ne. ap (same_text (path_in pages after x)) (same_path_in pages at after id t.path) ∙ once x l m s ne))
+      (ap (λ (path : List ℕ). (id == 1) && not (same_text path (codes "/"))) (same_path_in pages at after id t.path) ∙ before.named);
   others = λ other l m ne. same_coffer pages at after other (t.others other l m ne);
   entries = others_pass pages at after id passes keeps t.others clash;
   buckets = λ bucket h. bucket_stays pages at after bucket (t.buckets bucket h)
@@ -72,6 +75,14 @@ touched pages id at after passes keeps t = record {
       (passes.buckets bucket h);
 }
   where
+    before : Entry pages at id
+    before = entry_parts pages at id t.was (passes.entries id t.least t.most)
+
+    once : (x : ℕ) → 1 ≤ x → x ≤ 256 → stands_in pages after x ≡ true → (x ≡ id → ⊥) → same_text (path_in pages after x) (path_in pages at id) ≡ false
+    once x l m s ne =
+        ap (λ (path : List ℕ). same_text path (path_in pages at id)) (same_path_in pages at after x (λ i g h. t.others x l m ne i h (omega arith)))
+        ∙ twice_at pages at id x before.once l m (sym (ap is_there (same_state pages at after x (t.others x l m ne))) ∙ s) ne
+
     entry : (x : ℕ) → 1 ≤ x → x ≤ 256 → (x ≡ id) ⊎ (x ≡ id → ⊥) → (stands_in pages after x ≡ stands_in pages at x) × (path_in pages after x ≡ path_in pages at x)
     entry x l m (inl e) =
         subst (λ (k : ℕ). (stands_in pages after k ≡ stands_in pages at k) × (path_in pages after k ≡ path_in pages at k)) (sym e)

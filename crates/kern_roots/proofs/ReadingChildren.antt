@@ -49,7 +49,7 @@ other_path words other sound there isnt_root = by (path_size (path_of words othe
     by (inr two) = two
 
 -- nothing is above the root coffer
-root_is_highest : (words : List Word) → IsSoundKernel words → coffer_above (coffers words) (path_of words 1) ≡ None
+pub root_is_highest : (words : List Word) → IsSoundKernel words → coffer_above (coffers words) (path_of words 1) ≡ None
 root_is_highest words sound =
     ap (λ (cs : List Coffer). longest (filter (λ c. lies_under (path_of words 1) c.path) cs)) (coffers_listed (pages_of words) (kernel_word words))
     ∙ longest_none (coffer_in (pages_of words) (kernel_word words)) (stands_in (pages_of words) (kernel_word words)) (λ c. lies_under (path_of words 1) c.path) 1 256

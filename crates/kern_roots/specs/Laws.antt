@@ -5,7 +5,7 @@ use Rattle.zo_layout.specs.Layout.{word_of, coffer_entry, path_bucket}
 use Rattle.tr_types.specs.declared.permission.Perm.{Perm}
 use Rattle.tr_types.specs.Paths.{is_path_text}
 use Rattle.tr_types.specs.Kernel.{read_after}
-use Rattle.tr_types.specs.KernelTables.{Coffer, owner_in, is_there, stands_in, coffer_in, entry_fails, bucket_fails}
+use Rattle.tr_types.specs.KernelTables.{Coffer, owner_in, owns, is_mode, is_there, stands_in, coffer_in, entry_fails, bucket_fails}
 use Rattle.tr_types.specs.PathMap.{free_id, added_pairs, dropped_pairs, perm_pairs, state_pairs, root_pairs}
 use Rattle.kern_roots.specs.Changes.{is_taken, is_used}
 
@@ -26,9 +26,20 @@ pub record KeepsOwners (pages id : ℕ) (at after : ℕ → ℕ) : Type 0 where
   pub root : (other : ℕ) → is_used pages at other ≡ true → other ≢ id
       → owner_in pages after (coffer_in pages at other).root ≡ owner_in pages at (coffer_in pages at other).root
 
--- A change of one entry: the others say what they said, and pass, and the buckets pass. So where that entry passes too,
--- no rule of the table fails.
+-- What the rule of an entry asks of a coffer, but for its path: its permission, its kind, and two pages of its own.
+pub record IsRight (pages : ℕ) (at : ℕ → ℕ) (c : Coffer) : Type 0 where
+  pub uid : c.perm.uid ≤ 4294967295
+  pub gid : c.perm.gid ≤ 4294967295
+  pub mode : is_mode c.perm.mode ≡ true
+  pub kind : c.kind ≡ 0
+  pub control : owns pages at c.id c.control ≡ true
+  pub root : owns pages at c.id c.root ≡ true
+  pub apart : c.control ≢ c.root
+
+-- A change of one entry: the others say what they said, and pass, and the buckets pass. The entry itself passes where the
+-- coffer that it has then is right. So no rule of the table fails then.
 pub record ChangesOne (pages id : ℕ) (at after : ℕ → ℕ) : Type 0 where
+  pub own : IsRight pages after (coffer_in pages after id) → entry_fails pages after id ≡ false
   pub others : (other : ℕ) → 1 ≤ other → other ≤ 256 → other ≢ id → coffer_in pages after other ≡ coffer_in pages at other
   pub entries : (other : ℕ) → 1 ≤ other → other ≤ 256 → other ≢ id → entry_fails pages after other ≡ false
   pub buckets : (bucket : ℕ) → bucket < 256 → bucket_fails pages after bucket ≡ false

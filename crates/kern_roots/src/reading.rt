@@ -4,7 +4,7 @@ ghost use Rattle.tr_types.specs.Paths.{is_path_text};
 ghost use Rattle.tr_types.specs.Kernel.{coffers};
 ghost use Rattle.tr_types.specs.KernelRules.{IsSoundKernel};
 ghost use Rattle.tr_types.specs.KernelTables.{Coffer};
-ghost use Rattle.tr_types.specs.PathMap.{coffer_of_path, coffer_with, children_of};
+ghost use Rattle.tr_types.specs.PathMap.{coffer_of_path, coffer_above, coffer_with, children_of};
 ghost use Rattle.kern_roots.specs.Reading.{root_of, found_of, IsRefused};
 ghost use Rattle.kern_roots.specs.Fronts.{is_child_of};
 
@@ -32,6 +32,20 @@ pub fn find(words: &Words, path: &Path) -> Found
         exact: front.end == bytes.len(),
         path_len: front.end as u16,
     }
+}
+
+/// The coffer that lies above a path: the one with the longest path that the path begins with, by whole
+/// names, and isn't. None lies above `/`. Takes no memory.
+pub fn above(words: &Words, path: &Path) -> Option<u16>
+    requires sound { IsSoundKernel words.now }
+    requires path { is_path_text path.now ≡ true }
+    ensures { result ≡ option_map (λ (c : Coffer). c.id) (coffer_above (coffers words.now) path.now) }
+{
+    let bytes = path.as_bytes();
+    if bytes.len() < 2 {
+        return None;
+    }
+    Some(longest_front(words, bytes, bytes.len() - 1).id)
 }
 
 /// What the entry of a coffer says; none where there is no such coffer. Takes no memory.

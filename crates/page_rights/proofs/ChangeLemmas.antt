@@ -1,29 +1,29 @@
 -- Each change leaves the parts of the tables tied together.
 use Rattle.std.proofs.Common.{◌≡◌, ◌≢◌, ℕ, ◌+◌, ◌/◌, ◌%◌, ◌<◌, ◌≤◌, ◌↔◌, List, [], ◌∷◌, ◌++◌, Bool, true, false, not, length, get_or, set, refl, ap, sym, subst, ◌∙◌, ◌⊎◌, inl, inr, cond, eqb, arith, All, Contains, Option, Some, None, get_or-set_same, get_or-set_other}
 use Rattle.std.specs.Prelude.{filter}
-use Rattle.std.proofs.lemmas.Bool.{cases_eq, cases_lt, eq-eqb, eqb-true, eqb-false, ne_eqb, and_parts, and_from, and_left, and_right, not-true, not-false, not_from_false, false_from_ne_true, both_ways}
-use Rattle.std.proofs.lemmas.List.{length-set, length-map, get_or_past, get_or-map}
+use Rattle.std.proofs.lemmas.Bool.{cases_eq, eq-eqb, eqb-true, eqb-false, ne_eqb, and_parts, and_from, and_left, and_right, not-true, not-false, false_from_ne_true, both_ways}
+use Rattle.std.proofs.lemmas.List.{length-set}
 use Rattle.std.proofs.lemmas.List.Elements.{All-nil, All-filter, filter_passes, All-contains, All-contains_itself, All-push, All-weaker, Contains-push_cases}
 use Rattle.tr_types.specs.declared.kernel_call.Holder.{Holder}
-use Rattle.tr_types.specs.Rights.{process_of, is_same, is_row_of, is_held, without_row, with_row, first_of, or_key}
+use Rattle.tr_types.specs.KernelCalls.{without_coffer}
+use Rattle.tr_types.specs.Rights.{process_of, is_same, is_row_of, without_row, with_row, first_of, or_key}
 use Rattle.page_rights.specs.declared.mapping.Mapping.{Mapping}
-use Rattle.page_rights.specs.Tables.{IsRow, with_pages, without_pages_of, with_held_pages, owners_unmapped, without_coffer}
+use Rattle.page_rights.specs.Tables.{IsRow}
 use Rattle.page_rights.specs.Lookup.{process_at, is_in, holds_in, uses_key_in, is_free_in, free_in, key_of, key_for_in, without_process_in, mapping_of, mapping_at, place_of, AreTied}
-use Rattle.page_rights.proofs.PageLemmas.{pages_either}
-use Rattle.page_rights.proofs.RowLemmas.{mapping_of_filter, mapping_of_push, mapping_of_none, mapping_of_threads, key_found, no_key, free_key, first_found, held_filter, held_push, held_last}
+use Rattle.page_rights.proofs.OneRow.{one_filtered, one_with_row}
+use Rattle.page_rights.proofs.RowLemmas.{mapping_of_filter, mapping_of_push, mapping_of_none, mapping_of_threads, key_found, no_key, free_key, first_found}
 
 -- Nothing yet.
 
-pub tied_new : (processes : List (Option ℕ)) (owners : List ℕ) (mappings : List (Option Mapping)) → length processes ≡ 256 → ((k : ℕ) → get_or processes k None ≡ None) → All (λ owner. owner ≡ 0) owners → length mappings ≡ 16448
-    → ((k : ℕ) → get_or mappings k None ≡ None) → AreTied [] processes [] owners mappings
-tied_new processes owners mappings numbers nobody unowned places nothing = record {
+pub tied_new : (processes : List (Option ℕ)) (mappings : List (Option Mapping)) → length processes ≡ 256 → ((k : ℕ) → get_or processes k None ≡ None) → length mappings ≡ 16448 → ((k : ℕ) → get_or mappings k None ≡ None) → AreTied [] processes [] mappings
+tied_new processes mappings numbers nobody places nothing = record {
   numbers = numbers;
   starts = nobody;
   small = λ thread process is. nowhere (sym (nobody thread) ∙ is);
   rows = All-nil IsRow;
   row_threads = All-nil (λ h. process_at processes h.thread ≢ None);
   own = λ process h g has_h has_g in_h in_g. no_row has_h;
-  held = λ page ne. absurd (ne (at page (cases_lt page (length owners))));
+  one_row = λ thread id. omega arith;
   places = places;
   kept = λ process id small bound. nothing (place_of process id);
 }
@@ -33,10 +33,6 @@ tied_new processes owners mappings numbers nobody unowned places nothing = recor
 
     no_row : {h : Holder} {X : Type 0} → Contains [] h → X
     no_row (k, lt, e) = absurd (omega arith)
-
-    at : (page : ℕ) → (page < length owners) ⊎ (length owners ≤ page) → get_or owners page 0 ≡ 0
-    at page (inl lt) = unowned page 0 lt
-    at page (inr past) = get_or_past owners page 0 past
 
 -- Rows.
 
@@ -85,73 +81,22 @@ kept_put processes old new mappings here coffer small bound places kept others p
         ∙ kept process id small_process bound_id
         ∙ sym (others process id elsewhere)
 
-module _ (threads : List (ℕ × ℕ)) (processes : List (Option ℕ)) (holders : List Holder) (owners : List ℕ) (mappings : List (Option Mapping)) (tied : AreTied threads processes holders owners mappings) where
-  -- Pages.
-
-  pub tied_owners : (now : List ℕ) → ((page : ℕ) → get_or now page 0 ≢ 0 → is_held (get_or now page 0) holders ≡ true) → AreTied threads processes holders now mappings
-  tied_owners now held = record {
-    numbers = tied.numbers;
-    starts = tied.starts;
-    small = tied.small;
-    rows = tied.rows;
-    row_threads = tied.row_threads;
-    own = tied.own;
-    held = held;
-    places = tied.places;
-    kept = tied.kept;
-  }
-
-  -- what a page stands under after pages were put under a coffer that is held, or 0
-  pub held_with_pages : (now : List Holder) (id : ℕ) (pages : List ℕ) → (id ≢ 0 → is_held id now ≡ true) → ((coffer : ℕ) → is_held coffer holders ≡ true → is_held coffer now ≡ true)
-      → (page : ℕ) → get_or (with_pages id pages owners) page 0 ≢ 0 → is_held (get_or (with_pages id pages owners) page 0) now ≡ true
-  held_with_pages now id pages here stays page ne = by (pages_either id pages owners page)
-    where
-      by : (get_or (with_pages id pages owners) page 0 ≡ id) ⊎ (get_or (with_pages id pages owners) page 0 ≡ get_or owners page 0) → is_held (get_or (with_pages id pages owners) page 0) now ≡ true
-      by (inl e) = ap (λ (o : ℕ). is_held o now) e ∙ here (λ z. ne (e ∙ z))
-      by (inr e) = ap (λ (o : ℕ). is_held o now) e ∙ stays (get_or owners page 0) (tied.held page (λ z. ne (e ∙ z)))
-
-  pub tied_put : (id : ℕ) (pages : List ℕ) → (id ≢ 0 → is_held id holders ≡ true) → AreTied threads processes holders (with_pages id pages owners) mappings
-  tied_put id pages here = tied_owners (with_pages id pages owners) (held_with_pages holders id pages here (λ coffer h. h))
-
+module _ (threads : List (ℕ × ℕ)) (processes : List (Option ℕ)) (holders : List Holder) (mappings : List (Option Mapping)) (tied : AreTied threads processes holders mappings) where
   -- Fewer rows.
 
-  tied_filtered : (keep : Holder → Bool) (pages : List ℕ) (now : List (Option Mapping)) → ((page : ℕ) → get_or pages page 0 ≢ 0 → is_held (get_or pages page 0) (filter keep holders) ≡ true) → length now ≡ 16448
-      → ((process id : ℕ) → process < 64 → id ≤ 256 → mapping_at now process id ≡ mapping_of processes (filter keep holders) process id)
-      → AreTied threads processes (filter keep holders) pages now
-  tied_filtered keep pages now held places kept = record {
+  tied_filtered : (keep : Holder → Bool) (now : List (Option Mapping)) → length now ≡ 16448 → ((process id : ℕ) → process < 64 → id ≤ 256 → mapping_at now process id ≡ mapping_of processes (filter keep holders) process id)
+      → AreTied threads processes (filter keep holders) now
+  tied_filtered keep now places kept = record {
     numbers = tied.numbers;
     starts = tied.starts;
     small = tied.small;
     rows = All-filter keep IsRow holders tied.rows;
     row_threads = All-filter keep (λ h. process_at processes h.thread ≢ None) holders tied.row_threads;
     own = λ process h g has_h has_g. tied.own process h g (from_filter keep holders h has_h) (from_filter keep holders g has_g);
-    held = held;
+    one_row = λ thread id. one_filtered thread id keep holders (tied.one_row thread id);
     places = places;
     kept = kept;
   }
-
-  -- where the coffer's pages leave the tables
-  held_without : (keep : Holder → Bool) (coffer : ℕ) → ((h : Holder) → h.id ≢ coffer → keep h ≡ true)
-      → (page : ℕ) → get_or (without_pages_of coffer owners) page 0 ≢ 0 → is_held (get_or (without_pages_of coffer owners) page 0) (filter keep holders) ≡ true
-  held_without keep coffer stays page ne = by (cases_lt page (length owners))
-    where
-      at : page < length owners → get_or (without_pages_of coffer owners) page 0 ≡ cond (eqb (get_or owners page 0) coffer) 0 (get_or owners page 0)
-      at lt = get_or-map (λ owner. cond (eqb owner coffer) 0 owner) owners page 0 0 lt
-
-      inside : (b : Bool) → eqb (get_or owners page 0) coffer ≡ b → page < length owners → is_held (get_or (without_pages_of coffer owners) page 0) (filter keep holders) ≡ true
-      inside true e lt = absurd (ne (at lt ∙ ap (λ (b : Bool). cond b 0 (get_or owners page 0)) e))
-      inside false e lt =
-          let same : get_or (without_pages_of coffer owners) page 0 ≡ get_or owners page 0 = at lt ∙ ap (λ (b : Bool). cond b 0 (get_or owners page 0)) e in
-          let other : get_or owners page 0 ≢ coffer = eqb-false (get_or owners page 0) coffer e in
-          ap (λ (o : ℕ). is_held o (filter keep holders)) same
-          ∙ held_filter (get_or owners page 0) keep holders (λ h is. stays h (λ c. other (sym (eqb-true h.id (get_or owners page 0) is) ∙ c))) (tied.held page (λ z. ne (same ∙ z)))
-
-      by : (page < length owners) ⊎ (length owners ≤ page) → is_held (get_or (without_pages_of coffer owners) page 0) (filter keep holders) ≡ true
-      by (inl lt) = inside (eqb (get_or owners page 0) coffer) refl lt
-      by (inr past) =
-          let long : length owners ≡ length (without_pages_of coffer owners) = sym (length-map owners (λ owner. cond (eqb owner coffer) 0 owner)) in
-          let beyond : length (without_pages_of coffer owners) ≤ page = omega arith in
-          absurd (ne (get_or_past (without_pages_of coffer owners) page 0 beyond))
 
   -- Start.
 
@@ -206,7 +151,7 @@ module _ (threads : List (ℕ × ℕ)) (processes : List (Option ℕ)) (holders 
     in_same : (h : Holder) (p : ℕ) → Contains holders h → is_in after h.thread p ≡ is_in processes h.thread p
     in_same h p has = ap (λ (o : Option ℕ). is_same o (Some p)) (All-contains (λ h. process_at after h.thread ≡ process_at processes h.thread) holders h rows_same has)
 
-    pub tied_started : AreTied (threads ++ (thread, process) ∷ []) (set processes thread (Some process)) holders owners mappings
+    pub tied_started : AreTied (threads ++ (thread, process) ∷ []) (set processes thread (Some process)) holders mappings
     tied_started = record {
       numbers = length-set processes thread (Some process) ∙ tied.numbers;
       starts = λ t. starts_at t (cases_eq t thread);
@@ -214,41 +159,23 @@ module _ (threads : List (ℕ × ℕ)) (processes : List (Option ℕ)) (holders 
       rows = tied.rows;
       row_threads = All-weaker (λ h. process_at processes h.thread ≢ None) (λ h. process_at after h.thread ≢ None) (λ h started none. started (sym (row_same h started) ∙ none)) holders tied.row_threads;
       own = λ p h g has_h has_g in_h in_g. tied.own p h g has_h has_g (sym (in_same h p has_h) ∙ in_h) (sym (in_same g p has_g) ∙ in_g);
-      held = tied.held;
+      one_row = tied.one_row;
       places = tied.places;
       kept = λ p id lt le. tied.kept p id lt le ∙ sym (mapping_of_threads after processes p id holders rows_same);
     }
 
   -- Unmap.
 
-  kept_row : (thread coffer : ℕ) (h : Holder) → h.id ≢ coffer → not (is_row_of thread coffer h) ≡ true
-  kept_row thread coffer h ne = not_from_false (is_row_of thread coffer h) (and_right (eqb h.thread thread) (eqb h.id coffer) (ne_eqb h.id coffer ne))
-
   pub tied_unmapped : (thread coffer here : ℕ) → process_at processes thread ≡ Some here → coffer ≤ 256
-      → AreTied threads processes (without_row thread coffer holders) (owners_unmapped coffer (without_row thread coffer holders) owners) (set mappings (place_of here coffer) (mapping_of processes (without_row thread coffer holders) here coffer))
+      → AreTied threads processes (without_row thread coffer holders) (set mappings (place_of here coffer) (mapping_of processes (without_row thread coffer holders) here coffer))
   tied_unmapped thread coffer here is bound =
-      tied_filtered (λ h. not (is_row_of thread coffer h)) (owners_unmapped coffer (without_row thread coffer holders) owners) (set mappings (place_of here coffer) (mapping_of processes (without_row thread coffer holders) here coffer))
-      (pages (is_held coffer (without_row thread coffer holders)) refl)
+      tied_filtered (λ h. not (is_row_of thread coffer h)) (set mappings (place_of here coffer) (mapping_of processes (without_row thread coffer holders) here coffer))
       (length-set mappings (place_of here coffer) (mapping_of processes (without_row thread coffer holders) here coffer) ∙ tied.places)
       (kept_put processes holders (without_row thread coffer holders) mappings here coffer (tied.small thread here is) bound tied.places tied.kept others)
     where
       others : (process id : ℕ) → ((process ≡ here) → (id ≡ coffer) → ⊥) → mapping_of processes (without_row thread coffer holders) process id ≡ mapping_of processes holders process id
       others process id elsewhere =
           mapping_of_filter processes process id (λ h. not (is_row_of thread coffer h)) holders (λ h goes. row_elsewhere processes thread here coffer process id is elsewhere h (dropped_row thread coffer h goes).0 (dropped_row thread coffer h goes).1)
-
-      still : is_held coffer (without_row thread coffer holders) ≡ true → (page : ℕ) → get_or owners page 0 ≢ 0 → (get_or owners page 0 ≡ coffer) ⊎ (get_or owners page 0 ≡ coffer → ⊥) → is_held (get_or owners page 0) (without_row thread coffer holders) ≡ true
-      still held page ne (inl e) = ap (λ (o : ℕ). is_held o (without_row thread coffer holders)) e ∙ held
-      still held page ne (inr other) =
-          held_filter (get_or owners page 0) (λ h. not (is_row_of thread coffer h)) holders (λ h same. kept_row thread coffer h (λ c. other (sym (eqb-true h.id (get_or owners page 0) same) ∙ c))) (tied.held page ne)
-
-      pages : (b : Bool) → is_held coffer (without_row thread coffer holders) ≡ b
-          → (page : ℕ) → get_or (owners_unmapped coffer (without_row thread coffer holders) owners) page 0 ≢ 0 → is_held (get_or (owners_unmapped coffer (without_row thread coffer holders) owners) page 0) (without_row thread coffer holders) ≡ true
-      pages true held =
-          subst (λ (b : Bool). (page : ℕ) → get_or (cond b owners (without_pages_of coffer owners)) page 0 ≢ 0 → is_held (get_or (cond b owners (without_pages_of coffer owners)) page 0) (without_row thread coffer holders) ≡ true)
-          (sym held) (λ page ne. still held page ne (cases_eq (get_or owners page 0) coffer))
-      pages false gone =
-          subst (λ (b : Bool). (page : ℕ) → get_or (cond b owners (without_pages_of coffer owners)) page 0 ≢ 0 → is_held (get_or (cond b owners (without_pages_of coffer owners)) page 0) (without_row thread coffer holders) ≡ true)
-          (sym gone) (held_without (λ h. not (is_row_of thread coffer h)) coffer (λ h ne. kept_row thread coffer h ne))
 
   -- Map.
 
@@ -315,20 +242,14 @@ module _ (threads : List (ℕ × ℕ)) (processes : List (Option ℕ)) (holders 
         let same : h ≡ g = sym a ∙ b in
         (λ i. ap (λ (x : Holder). x.key) same, λ k. ap (λ (x : Holder). x.id) same)
 
-    held_now : (coffer : ℕ) → (coffer ≡ row.id) ⊎ (coffer ≡ row.id → ⊥) → is_held coffer holders ≡ true → is_held coffer now ≡ true
-    held_now coffer (inl e) held = ap (λ (o : ℕ). is_held o now) e ∙ held_last (without_row row.thread row.id holders) row
-    held_now coffer (inr ne) held =
-        held_push coffer (without_row row.thread row.id holders) row
-        (held_filter coffer (λ h. not (is_row_of row.thread row.id h)) holders (λ h same. kept_row row.thread row.id h (λ c. ne (sym (eqb-true h.id coffer same) ∙ c))) held)
-
     others_now : (process id : ℕ) → ((process ≡ here) → (id ≡ row.id) → ⊥) → mapping_of processes now process id ≡ mapping_of processes holders process id
     others_now process id elsewhere =
         mapping_of_push processes process id (without_row row.thread row.id holders) row (row_elsewhere processes row.thread here row.id process id is elsewhere row refl refl)
         ∙ mapping_of_filter processes process id (λ h. not (is_row_of row.thread row.id h)) holders
         (λ h goes. row_elsewhere processes row.thread here row.id process id is elsewhere h (dropped_row row.thread row.id h goes).0 (dropped_row row.thread row.id h goes).1)
 
-    pub tied_mapped : (pages : List ℕ) → AreTied threads processes (with_row row holders) (with_pages row.id pages owners) (set mappings (place_of here row.id) (mapping_of processes (with_row row holders) here row.id))
-    tied_mapped pages =
+    pub tied_mapped : AreTied threads processes (with_row row holders) (set mappings (place_of here row.id) (mapping_of processes (with_row row holders) here row.id))
+    tied_mapped =
         let range = range_by (key_of processes holders here row.id) refl key in
         let is_row : IsRow row = record { least_id = least_id; greatest_id = greatest_id; least_key = range.0; greatest_key = range.1 } in
         record {
@@ -340,7 +261,7 @@ module _ (threads : List (ℕ × ℕ)) (processes : List (Option ℕ)) (holders 
               (All-filter (λ h. not (is_row_of row.thread row.id h)) (λ h. process_at processes h.thread ≢ None) holders tied.row_threads) (λ none. not_both (sym is ∙ none));
           own = λ process h g has_h has_g in_h in_g.
               fits process h g (Contains-push_cases (without_row row.thread row.id holders) row h has_h) (Contains-push_cases (without_row row.thread row.id holders) row g has_g) in_h in_g;
-          held = held_with_pages now row.id pages (λ _. held_last (without_row row.thread row.id holders) row) (λ coffer held. held_now coffer (cases_eq coffer row.id) held);
+          one_row = λ thread id. one_with_row thread id row holders (tied.one_row thread id);
           places = length-set mappings (place_of here row.id) (mapping_of processes now here row.id) ∙ tied.places;
           kept = kept_put processes holders now mappings here row.id (tied.small row.thread here is) greatest_id tied.places tied.kept others_now;
         }
@@ -352,10 +273,9 @@ module _ (threads : List (ℕ × ℕ)) (processes : List (Option ℕ)) (holders 
 
   module _ (after : List (Option Mapping)) (long : length after ≡ length mappings) where
     pub tied_without_coffer : (coffer : ℕ) → ((k : ℕ) → k % 257 ≡ coffer → get_or after k None ≡ None) → ((k : ℕ) → k % 257 ≢ coffer → get_or after k None ≡ get_or mappings k None)
-        → AreTied threads processes (without_coffer coffer holders) (without_pages_of coffer owners) after
+        → AreTied threads processes (without_coffer coffer holders) after
     tied_without_coffer coffer gone stays =
-        tied_filtered (λ h. not (eqb h.id coffer)) (without_pages_of coffer owners) after
-        (held_without (λ h. not (eqb h.id coffer)) coffer (λ h ne. not_from_false (eqb h.id coffer) (ne_eqb h.id coffer ne)))
+        tied_filtered (λ h. not (eqb h.id coffer)) after
         (long ∙ tied.places)
         (λ process id small bound. at process id small bound (cases_eq id coffer))
       where
@@ -380,29 +300,12 @@ module _ (threads : List (ℕ × ℕ)) (processes : List (Option ℕ)) (holders 
             ∙ sym (mapping_of_filter processes process id (λ h. not (eqb h.id coffer)) holders (other process id ne))
 
     pub tied_without_process : (gone_process : ℕ) → ((k : ℕ) → k / 257 ≡ gone_process → get_or after k None ≡ None) → ((k : ℕ) → k / 257 ≢ gone_process → get_or after k None ≡ get_or mappings k None)
-        → AreTied threads processes (without_process_in processes gone_process holders) (with_held_pages (without_process_in processes gone_process holders) owners) after
+        → AreTied threads processes (without_process_in processes gone_process holders) after
     tied_without_process gone_process gone stays =
-        tied_filtered (λ h. not (is_in processes h.thread gone_process)) (with_held_pages (without_process_in processes gone_process holders) owners) after
-        (λ page ne. pages page ne (cases_lt page (length owners)))
+        tied_filtered (λ h. not (is_in processes h.thread gone_process)) after
         (long ∙ tied.places)
         (λ process id small bound. at process id small bound (cases_eq process gone_process))
       where
-        pages : (page : ℕ) → get_or (with_held_pages (without_process_in processes gone_process holders) owners) page 0 ≢ 0 → (page < length owners) ⊎ (length owners ≤ page)
-            → is_held (get_or (with_held_pages (without_process_in processes gone_process holders) owners) page 0) (without_process_in processes gone_process holders) ≡ true
-        pages page ne (inl lt) = by (is_held (get_or owners page 0) (without_process_in processes gone_process holders)) refl
-          where
-            is : get_or (with_held_pages (without_process_in processes gone_process holders) owners) page 0 ≡ cond (is_held (get_or owners page 0) (without_process_in processes gone_process holders)) (get_or owners page 0) 0
-            is = get_or-map (λ owner. cond (is_held owner (without_process_in processes gone_process holders)) owner 0) owners page 0 0 lt
-
-            by : (b : Bool) → is_held (get_or owners page 0) (without_process_in processes gone_process holders) ≡ b
-                → is_held (get_or (with_held_pages (without_process_in processes gone_process holders) owners) page 0) (without_process_in processes gone_process holders) ≡ true
-            by true e = ap (λ (o : ℕ). is_held o (without_process_in processes gone_process holders)) (is ∙ ap (λ (b : Bool). cond b (get_or owners page 0) 0) e) ∙ e
-            by false e = absurd (ne (is ∙ ap (λ (b : Bool). cond b (get_or owners page 0) 0) e))
-        pages page ne (inr past) =
-            let same : length (with_held_pages (without_process_in processes gone_process holders) owners) ≡ length owners = length-map owners (λ owner. cond (is_held owner (without_process_in processes gone_process holders)) owner 0) in
-            let beyond : length (with_held_pages (without_process_in processes gone_process holders) owners) ≤ page = omega arith in
-            absurd (ne (get_or_past (with_held_pages (without_process_in processes gone_process holders) owners) page 0 beyond))
-
         none_left : (process id : ℕ) → process ≡ gone_process → (h : Holder) → not (is_in processes h.thread gone_process) ≡ true → holds_in processes process id h ≡ false
         none_left process id same h stayed =
             and_right (eqb h.id id) (is_in processes h.thread process) (ap (λ (p : ℕ). is_in processes h.thread p) same ∙ not-true (is_in processes h.thread gone_process) stayed)

@@ -6,4 +6,4 @@ mod ThreadLemmas
 mod TiedLemmas
 mod ChangeLemmas
 mod AnswerLemmas
-mod BitLemmas
+pub mod OneRow

@@ -1,16 +1,10 @@
--- A change of each page in turn, and which coffers are left.
-use Rattle.std.proofs.Common.{sym, Contains, ◌≢◌, zero, suc, arith, subst, ◌≡◌, ℕ, ◌+◌, ◌<◌, ◌≤◌, List, [], ◌∷◌, ◌++◌, length, get_or, set, map, take, drop, refl, ap, ◌∙◌, ◌⊎◌, inl, inr, get_or-set_same, get_or-set_other}
+-- Under which coffer a page stands, after pages were put under one.
+use Rattle.std.proofs.Common.{sym, Contains, ◌≢◌, zero, suc, arith, subst, ◌≡◌, ℕ, ◌<◌, ◌≤◌, List, [], ◌∷◌, length, get_or, set, refl, ap, ◌∙◌, ◌⊎◌, inl, inr, get_or-set_same, get_or-set_other}
 use Rattle.std.proofs.lemmas.Bool.{cases_eq, cases_lt}
-use Rattle.std.proofs.lemmas.List.{get_or_default, set_past, length-set}
-use Rattle.std.proofs.lemmas.List.Edits.{map_over_more}
+use Rattle.std.proofs.lemmas.List.{set_past, length-set}
 use Rattle.std.proofs.lemmas.List.Elements.{Contains-push, Contains-append_left, Contains-append_right, Contains-append_cases}
 use Rattle.page_rights.specs.Tables.{with_pages}
-
--- one place further, where `old` was read
-pub over_more : (f : ℕ → ℕ) (xs ys zs : List ℕ) (i old value : ℕ) → i < length xs → i < length ys → ys ≡ map f (take i xs) ++ drop i xs → old ≡ get_or ys i 0 → value ≡ f old → zs ≡ set ys i value
-    → zs ≡ map f (take (i + 1) xs) ++ drop (i + 1) xs
-over_more f xs ys zs i old value inside within so_far read is written =
-    written ∙ ap (λ (v : ℕ). set ys i v) is ∙ map_over_more f xs ys i old inside so_far (read ∙ get_or_default ys i 0 old within)
+use Rattle.page_rights.specs.Laws.{PutsThesePages}
 
 pub length_with_pages : (id : ℕ) (pages owners : List ℕ) → length (with_pages id pages owners) ≡ length owners
 length_with_pages id [] owners = refl
@@ -71,3 +65,6 @@ page_among id (q ∷ pages) owners page inside has =
     by rest (inl here) =
         let same : q ≡ page = first (inl here) in
         page_stays id pages (set owners q id) page (ap (λ (p : ℕ). get_or (set owners q id) p 0) (sym same) ∙ get_or-set_same owners q id 0 (let e = same in omega arith))
+
+pub puts_these_pages : PutsThesePages
+puts_these_pages id pages owners page = (page_among id pages owners page, page_other id pages owners page)

@@ -2,10 +2,10 @@
 use Rattle.std.proofs.Common.{◌≡◌, ℕ, zero, suc, ◌+◌, ◌-◌, ◌<◌, ◌≤◌, List, [], ◌∷◌, ◌++◌, Bool, true, false, not, ◌&&◌, ◌||◌, refl, ap, sym, subst, ◌∙◌, ◌⊎◌, inl, inr, cond, eqb, arith, All, Contains, Option, Some, None, min}
 use Rattle.std.specs.Prelude.{filter}
 use Rattle.std.specs.List.{range_with_len}
-use Rattle.std.proofs.lemmas.Bool.{cases_lt, eq-eqb, and_parts, not-true, or_left, or_right, both_ways, false_from_ne_true}
+use Rattle.std.proofs.lemmas.Bool.{cases_lt, and_parts, not-true}
 use Rattle.std.proofs.lemmas.List.Elements.{All-nil, All-head, All-tail, All-cons, Contains-append_right, filter_agree, Contains-push, Contains-push_cases, Contains-append_left}
 use Rattle.tr_types.specs.declared.kernel_call.Holder.{Holder}
-use Rattle.tr_types.specs.Rights.{process_of, is_same, allows_writing, first_of, key_in, is_writable, is_held, is_free_key, key_for, or_key}
+use Rattle.tr_types.specs.Rights.{process_of, is_same, allows_writing, first_of, key_in, is_writable, is_free_key, key_for, or_key}
 use Rattle.page_rights.specs.Lookup.{process_at, is_in, holds_in, key_of, is_writable_in, uses_key_in, is_free_in, key_for_in, mapping_for, mapping_by, mapping_of, lesser, IsLeast}
 
 -- keys in turn, where this one isn't free
@@ -197,34 +197,3 @@ module _ (threads : List (ℕ × ℕ)) (processes : List (Option ℕ)) (starts :
   pub key_for_by_thread : (holders : List Holder) (id : ℕ) → key_for_in processes holders process id ≡ key_for threads holders thread id
   key_for_by_thread holders id =
       λ i. or_key (key_by_thread holders id i) (first_of (filter_agree (is_free_in processes holders process) (is_free_key threads holders thread) (free_by_thread holders) (range_with_len 1 15) i))
-
--- Who is held.
-
-held_more : (coffer : ℕ) (h : Holder) (old new : List Holder) → (is_held coffer old ≡ true → is_held coffer new ≡ true) → is_held coffer (h ∷ old) ≡ true → is_held coffer (h ∷ new) ≡ true
-held_more coffer h old new rest held = by (eqb h.id coffer) refl
-  where
-    by : (b : Bool) → eqb h.id coffer ≡ b → is_held coffer (h ∷ new) ≡ true
-    by true is = or_left (eqb h.id coffer) (is_held coffer new) is
-    by false is = or_right (eqb h.id coffer) (is_held coffer new) (rest (sym (ap (λ (b : Bool). b || is_held coffer old) is) ∙ held))
-
--- rows of other coffers go
-pub held_filter : (coffer : ℕ) (keep : Holder → Bool) (holders : List Holder) → ((h : Holder) → eqb h.id coffer ≡ true → keep h ≡ true) → is_held coffer holders ≡ true → is_held coffer (filter keep holders) ≡ true
-held_filter coffer keep [] stays held = cc
-held_filter coffer keep (h ∷ holders) stays held = by (keep h) refl (held_filter coffer keep holders stays)
-  where
-    by : (b : Bool) → keep h ≡ b → (is_held coffer holders ≡ true → is_held coffer (filter keep holders) ≡ true) → is_held coffer (cond (keep h) (h ∷ filter keep holders) (filter keep holders)) ≡ true
-    by true is rest =
-        ap (λ (b : Bool). is_held coffer (cond b (h ∷ filter keep holders) (filter keep holders))) is
-        ∙ held_more coffer h holders (filter keep holders) rest held
-    by false is rest =
-        let other : eqb h.id coffer ≡ false = false_from_ne_true (eqb h.id coffer) (λ same. both_ways (keep h) is (stays h same)) in
-        ap (λ (b : Bool). is_held coffer (cond b (h ∷ filter keep holders) (filter keep holders))) is
-        ∙ rest (sym (ap (λ (b : Bool). b || is_held coffer holders) other) ∙ held)
-
-pub held_push : (coffer : ℕ) (holders : List Holder) (row : Holder) → is_held coffer holders ≡ true → is_held coffer (holders ++ row ∷ []) ≡ true
-held_push coffer [] row held = cc
-held_push coffer (h ∷ holders) row held = held_more coffer h holders (holders ++ row ∷ []) (held_push coffer holders row) held
-
-pub held_last : (holders : List Holder) (row : Holder) → is_held row.id (holders ++ row ∷ []) ≡ true
-held_last [] row = or_left (eqb row.id row.id) false (eq-eqb row.id row.id refl)
-held_last (h ∷ holders) row = or_right (eqb h.id row.id) (is_held row.id (holders ++ row ∷ [])) (held_last holders row)

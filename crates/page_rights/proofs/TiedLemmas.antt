@@ -1,26 +1,14 @@
 -- What ties the parts of the tables together, and that changes keep it.
-use Rattle.std.proofs.Common.{◌≡◌, ℕ, ◌<◌, ◌≤◌, ◌↔◌, List, [], ◌∷◌, true, false, length, get_or, refl, ap, sym, subst, ◌∙◌, ◌⊎◌, inl, inr, eqb, arith, All, Contains, Option, Some, None}
+use Rattle.std.proofs.Common.{◌≡◌, ℕ, ◌<◌, ◌≤◌, ◌↔◌, List, true, false, get_or, refl, ap, sym, subst, ◌∙◌, ◌⊎◌, inl, inr, eqb, arith, All, Contains, Option, Some, None}
 use Rattle.std.specs.Prelude.{IsSome, IfSome, is_some}
-use Rattle.std.proofs.lemmas.Bool.{cases_eq, eq-eqb, eqb-true, or_cases, both_ways}
-use Rattle.std.proofs.lemmas.List.Elements.{All-head, All-tail, All-contains}
+use Rattle.std.proofs.lemmas.Bool.{cases_lt, eq-eqb, eqb-true, ne_eqb, and_left, both_ways}
+use Rattle.std.proofs.lemmas.List.Elements.{All-weaker, All-contains}
 use Rattle.tr_types.specs.declared.kernel_call.Holder.{Holder}
-use Rattle.tr_types.specs.Rights.{process_of, is_same, are_together, is_held}
+use Rattle.tr_types.specs.Rights.{process_of, is_same, are_together}
 use Rattle.page_rights.specs.declared.mapping.Mapping.{Mapping}
 use Rattle.page_rights.specs.Tables.{View, IsRow, IsSound}
-use Rattle.page_rights.specs.Lookup.{process_at, holds_in, key_of, is_writable_in, mapping_by, mapping_of, mapping_for, place_of, AreTied}
-use Rattle.page_rights.proofs.RowLemmas.{key_found, mapping_by_thread}
-
--- a held coffer is one of 1 to 256
-pub held_bound : (coffer : ℕ) (holders : List Holder) → All IsRow holders → is_held coffer holders ≡ true → coffer ≤ 256
-held_bound coffer [] rows held = absurd (both_ways false refl held)
-held_bound coffer (h ∷ holders) rows held = by (held_bound coffer holders (All-tail IsRow h holders rows)) (or_cases (eqb h.id coffer) (is_held coffer holders) held)
-  where
-    row : IsRow h
-    row = All-head IsRow h holders rows
-
-    by : (is_held coffer holders ≡ true → coffer ≤ 256) → (eqb h.id coffer ≡ true) ⊎ (is_held coffer holders ≡ true) → coffer ≤ 256
-    by rest (inl e) = let same : h.id ≡ coffer = eqb-true h.id coffer e in let most : h.id ≤ 256 = row.greatest_id in omega arith
-    by rest (inr e) = rest e
+use Rattle.page_rights.specs.Lookup.{process_at, holds_in, key_of, is_writable_in, mapping_by, mapping_of, mapping_at, mapping_for, is_in, AreTied}
+use Rattle.page_rights.proofs.RowLemmas.{key_found, mapping_of_none, mapping_by_thread}
 
 -- two in one process are in some process
 in_some : (a b : Option ℕ) → is_same a b ≡ true → (process : ℕ) × (is_same a (Some process) ≡ true) × (is_same b (Some process) ≡ true)
@@ -28,7 +16,7 @@ in_some (Some a) (Some b) e = (a, eq-eqb a a refl, eq-eqb b a (sym (eqb-true a b
 in_some (Some a) None e = absurd (both_ways false refl e)
 in_some None b e = absurd (both_ways false refl e)
 
-module _ (threads : List (ℕ × ℕ)) (processes : List (Option ℕ)) (holders : List Holder) (owners : List ℕ) (mappings : List (Option Mapping)) (tied : AreTied threads processes holders owners mappings) where
+module _ (threads : List (ℕ × ℕ)) (processes : List (Option ℕ)) (holders : List Holder) (mappings : List (Option Mapping)) (tied : AreTied threads processes holders mappings) where
   own_keys : (h g : Holder) → Contains holders h → Contains holders g → are_together threads h.thread g.thread ≡ true → (h.id ≡ g.id) ↔ (h.key ≡ g.key)
   own_keys h g has_h has_g together = by (in_some (process_of threads h.thread) (process_of threads g.thread) together)
     where
@@ -38,12 +26,19 @@ module _ (threads : List (ℕ × ℕ)) (processes : List (Option ℕ)) (holders 
           (ap (λ (o : Option ℕ). is_same o (Some process)) (tied.starts h.thread) ∙ a)
           (ap (λ (o : Option ℕ). is_same o (Some process)) (tied.starts g.thread) ∙ b)
 
-  pub owner_bound : (page : ℕ) → get_or owners page 0 ≤ 256
-  owner_bound page = by (cases_eq (get_or owners page 0) 0)
+  -- a coffer past 256 has no row
+  past_rows : (process id : ℕ) → 256 < id → All (λ h. holds_in processes process id h ≡ false) holders
+  past_rows process id past =
+      All-weaker IsRow (λ h. holds_in processes process id h ≡ false)
+      (λ h row. and_left (eqb h.id id) (is_in processes h.thread process) (ne_eqb h.id id (λ e. let most : h.id ≤ 256 = row.greatest_id in omega arith))) holders tied.rows
+
+  -- what is kept, also of a coffer past 256
+  found_is : (process id : ℕ) (m : Option Mapping) → process < 64 → (id ≤ 256 → m ≡ mapping_at mappings process id) → (256 < id → m ≡ None) → m ≡ mapping_of processes holders process id
+  found_is process id m small inside past = by (cases_lt 256 id)
     where
-      by : (get_or owners page 0 ≡ 0) ⊎ (get_or owners page 0 ≡ 0 → ⊥) → get_or owners page 0 ≤ 256
-      by (inl e) = omega arith
-      by (inr ne) = held_bound (get_or owners page 0) holders tied.rows (tied.held page ne)
+      by : (256 < id) ⊎ (id ≤ 256) → m ≡ mapping_of processes holders process id
+      by (inl lt) = past lt ∙ sym (mapping_of_none processes process id holders (past_rows process id lt))
+      by (inr le) = inside le ∙ tied.kept process id small le
 
   key_small : (process id : ℕ) (found : Option ℕ) → key_of processes holders process id ≡ found → IfSome (mapping_by found (is_writable_in processes holders process id)) (λ m. m.key ≤ 15)
   key_small process id None is = tt
@@ -56,13 +51,9 @@ module _ (threads : List (ℕ × ℕ)) (processes : List (Option ℕ)) (holders 
           omega arith
 
   -- the same, of the view v
-  module _ (v : View) (view : (record { threads = threads; holders = holders; owners = owners }) ≡ v) where
+  module _ (owners : List ℕ) (v : View) (view : (record { threads = threads; holders = holders; owners = owners }) ≡ v) where
     pub is_sound : IsSound v
-    is_sound = subst IsSound view (record {
-      rows = tied.rows;
-      keys = record { own = own_keys };
-      held = tied.held;
-    })
+    is_sound = subst IsSound view (record { rows = tied.rows; keys = record { own = own_keys }; one_row = tied.one_row })
 
     pub is_started : (thread : ℕ) → IsSome (process_of v.threads thread) → IsSome (process_at processes thread)
     is_started thread started =
@@ -70,20 +61,10 @@ module _ (threads : List (ℕ × ℕ)) (processes : List (Option ℕ)) (holders 
         ∙ ap (λ (w : View). is_some (process_of w.threads thread)) view
         ∙ started
 
-    pub place_inside : (thread process id page : ℕ) → process_at processes thread ≡ Some process → id ≡ get_or owners page 0 → place_of process id < length mappings
-    place_inside thread process id page is owner =
-        let small : process < 64 = tied.small thread process is in
-        let bound : get_or owners page 0 ≤ 256 = owner_bound page in
-        let places : length mappings ≡ 16448 = tied.places in
-        omega arith
-
-    pub mapping_is : (thread process id page : ℕ) (m : Option Mapping) → process_at processes thread ≡ Some process → id ≡ get_or owners page 0 → m ≡ get_or mappings (place_of process id) None
+    pub mapping_is : (thread process id page : ℕ) (m : Option Mapping) → process_at processes thread ≡ Some process → id ≡ get_or owners page 0 → (id ≤ 256 → m ≡ mapping_at mappings process id) → (256 < id → m ≡ None)
         → (m ≡ mapping_for v.threads v.holders thread (get_or v.owners page 0)) × IfSome m (λ m. m.key ≤ 15)
-    mapping_is thread process id page m is owner read =
-        let small : process < 64 = tied.small thread process is in
-        let bound : get_or owners page 0 ≤ 256 = owner_bound page in
-        let id_bound : id ≤ 256 = omega arith in
-        let kept : m ≡ mapping_of processes holders process id = read ∙ tied.kept process id small id_bound in (
+    mapping_is thread process id page m is owner inside past =
+        let kept : m ≡ mapping_of processes holders process id = found_is process id m (tied.small thread process is) inside past in (
           kept
               ∙ mapping_by_thread threads processes tied.starts thread process is holders id
               ∙ ap (λ (o : ℕ). mapping_for threads holders thread o) owner

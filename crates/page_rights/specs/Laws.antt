@@ -1,8 +1,9 @@
--- What the values of the register that are used allow, and what the keys say.
-use Rattle.std.specs.Prelude.{ℕ, ◌≡◌, ◌≢◌, ◌≤◌, ◌↔◌, Contains, Bool, true, false, Some, None, ◌==◌, ◌&&◌}
+-- What the values of the register that are used allow, and what keys, rows and pages say.
+use Rattle.std.specs.Prelude.{ℕ, ◌≡◌, ◌≢◌, ◌<◌, ◌≤◌, ◌↔◌, List, length, slice_index, Contains, Bool, true, false, Option, Some, None, ◌==◌, ◌&&◌}
 use Rattle.tr_types.specs.declared.kernel_call.Holder.{Holder}
-use Rattle.tr_types.specs.Rights.{may_read, may_write, closed_pkru, only_pkru, key_in, key_for, are_together, load_fault, store_fault}
-use Rattle.page_rights.specs.Tables.{View, IsSound}
+use Rattle.tr_types.specs.KernelCalls.{holds_any, holds_for_writing, holds_as_owner, own_row}
+use Rattle.tr_types.specs.Rights.{has_bit, may_read, may_write, closed_pkru, only_pkru, key_in, key_for, are_together, load_fault, store_fault}
+use Rattle.page_rights.specs.Tables.{View, IsSound, with_pages}
 
 -- one key of 1 to 15 alone, for loads, and for stores as asked
 abbrev pub OnlyOneKey : Type 0
@@ -33,3 +34,23 @@ HasOtherAt v thread coffer key = (h : Holder) × Contains v.holders h × (are_to
 abbrev pub NoKeyMeansFifteenOthers : Type 0
 NoKeyMeansFifteenOthers =
     (v : View) (thread coffer : ℕ) → IsSound v → (key_for v.threads v.holders thread coffer ≡ None) ↔ ((key : ℕ) → 1 ≤ key → key ≤ 15 → HasOtherAt v thread coffer key)
+
+-- The thread's own row of a coffer says all of the thread's hold on it.
+
+abbrev pub row_gives : (Holder → Bool) → Option Holder → Bool
+row_gives test None = false
+row_gives test (Some row) = test row
+
+abbrev pub RowTellsAll : Type 0
+RowTellsAll =
+    (v : View) (thread coffer : ℕ) → IsSound v
+    → (holds_any thread coffer v.holders ≡ row_gives (λ row. true) (own_row thread coffer v.holders))
+    × (holds_for_writing thread coffer v.holders ≡ row_gives (λ row. has_bit row.right.0 1) (own_row thread coffer v.holders))
+    × (holds_as_owner thread coffer v.holders ≡ row_gives (λ row. has_bit row.right.0 2 && row.exclusive) (own_row thread coffer v.holders))
+
+-- Pages that are put under a coffer, or under none, stand there, and each other page where it stood.
+abbrev pub PutsThesePages : Type 0
+PutsThesePages =
+    (id : ℕ) (pages owners : List ℕ) (page : ℕ)
+    → (page < length owners → Contains pages page → slice_index (with_pages id pages owners) page ≡ id)
+    × ((Contains pages page → ⊥) → slice_index (with_pages id pages owners) page ≡ slice_index owners page)

@@ -1,11 +1,11 @@
 -- How a process has a coffer mapped, found without a walk over the holders.
-use Rattle.std.specs.Prelude.{ℕ, ◌≡◌, ◌≢◌, ◌+◌, ◌*◌, ◌<◌, ◌≤◌, ◌↔◌, All, MatchOption, min, List, [], ◌∷◌, length, filter, slice_index, slice_index_or, Contains, Bool, true, false, not, Option, Some, None, if◌then◌else◌, ◌==◌, ◌&&◌, ◌||◌}
+use Rattle.std.specs.Prelude.{ℕ, ◌≡◌, ◌≢◌, ◌+◌, ◌*◌, ◌<◌, ◌≤◌, ◌↔◌, All, MatchOption, min, List, [], ◌∷◌, length, filter, slice_index_or, Contains, Bool, true, false, not, Option, Some, None, if◌then◌else◌, ◌==◌, ◌&&◌, ◌||◌}
 use Rattle.std.specs.List.{range_with_len}
 use Rattle.tr_types.specs.declared.action.FaultKind.{FaultKind}
 use Rattle.tr_types.specs.declared.kernel_call.Holder.{Holder}
-use Rattle.tr_types.specs.Rights.{process_of, is_same, allows_writing, load_fault_by, store_fault_by, is_held, first_of, or_key, key_in, is_writable, IsLeastOf}
+use Rattle.tr_types.specs.Rights.{process_of, is_same, allows_writing, load_fault_by, store_fault_by, first_of, or_key, key_in, is_writable, IsLeastOf}
 use Rattle.page_rights.specs.declared.mapping.Mapping.{Mapping}
-use Rattle.page_rights.specs.Tables.{IsRow}
+use Rattle.page_rights.specs.Tables.{IsRow, HasOneRow}
 
 -- The same words as of threads, by the process itself; `processes` has the process of each thread by its number.
 
@@ -78,13 +78,13 @@ abbrev pub IsLeast : List ℕ → Option ℕ → Type 0
 IsLeast threads least = MatchOption least (threads ≡ []) (IsLeastOf threads)
 
 -- What ties the parts of the tables together.
-pub record AreTied (threads : List (ℕ × ℕ)) (processes : List (Option ℕ)) (holders : List Holder) (owners : List ℕ) (mappings : List (Option Mapping)) : Type 0 where
+pub record AreTied (threads : List (ℕ × ℕ)) (processes : List (Option ℕ)) (holders : List Holder) (mappings : List (Option Mapping)) : Type 0 where
   pub numbers : length processes ≡ 256
   pub starts : (thread : ℕ) → process_at processes thread ≡ process_of threads thread
   pub small : (thread process : ℕ) → process_at processes thread ≡ Some process → process < 64
   pub rows : All IsRow holders
   pub row_threads : All (λ h. process_at processes h.thread ≢ None) holders
   pub own : (process : ℕ) (h g : Holder) → Contains holders h → Contains holders g → is_in processes h.thread process ≡ true → is_in processes g.thread process ≡ true → (h.id ≡ g.id) ↔ (h.key ≡ g.key)
-  pub held : (page : ℕ) → slice_index owners page ≢ 0 → is_held (slice_index owners page) holders ≡ true
+  pub one_row : (thread id : ℕ) → HasOneRow holders thread id
   pub places : length mappings ≡ 16448
   pub kept : (process id : ℕ) → process < 64 → id ≤ 256 → mapping_at mappings process id ≡ mapping_of processes holders process id

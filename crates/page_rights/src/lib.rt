@@ -1,6 +1,7 @@
 //! Who may load and store which page.
 //!
-//! A process maps coffers, each under a key of its own, and with a coffer all its pages. A thread may
+//! A page stands under the coffer that owns it, whether anybody has that mapped or not. A process maps
+//! coffers, each under a key of its own, and with a coffer all pages that stand under it. A thread may
 //! load a page where its process has mapped the page's coffer and the thread's own register PKRU has
 //! the key open; it may store where moreover a thread of its process has mapped it for writing.
 #![tactic(auto)]
@@ -11,7 +12,7 @@ mod pkru;
 mod rows;
 mod tables;
 
-pub use laws::{keys_law, register_law};
+pub use laws::{keys_law, pages_law, register_law, row_law};
 pub use pkru::Pkru;
 pub use tables::{MapFault, Tables};
 

@@ -2,14 +2,16 @@
 ghost use Rattle.std.specs.Prelude.{◌≡◌, ◌≢◌, ℕ, ◌+◌, ◌*◌, ◌/◌, ◌%◌, ◌<◌, ◌≤◌, length, All, None, IfOk, slice_index, slice_index_or, slice_set};
 ghost use Rattle.std.specs.Vec.{vec_len};
 ghost use Rattle.page_rights.specs.Tables as tables;
-ghost use Rattle.page_rights.specs.Lookup.{place_of as spec_place, mapping_of};
+ghost use Rattle.page_rights.specs.Lookup.{place_of as spec_place, mapping_of, mapping_at as spec_mapping};
 
-use crate::rows::{is_held, mapping_of};
+use crate::rows::mapping_of;
 use std::alloc::{AllocError, Global};
 use tr_types::Holder;
 
+const PROCESSES: u8 = 64;
+
 /// Coffers and 0, which is none.
-const COFFERS: usize = 257;
+const COFFERS: u16 = 257;
 
 /// How a process has a coffer mapped: its key, and whether a thread of it may write.
 #[derive(Clone, Copy, Debug, PartialEq, Eq)]
@@ -40,7 +42,7 @@ pub fn unowned(alloc: Global, count: usize) -> Result<Vec<u16>, AllocError>
 pub fn place_of(process: u8, id: u16) -> usize
     ensures { result ≡ spec_place process id }
 {
-    COFFERS * usize::from(process) + usize::from(id)
+    usize::from(COFFERS) * usize::from(process) + usize::from(id)
 }
 
 /// Keeps what the holders say of a process and a coffer.
@@ -57,28 +59,52 @@ pub fn look_up(
     mappings[place_of(process, id)] = mapping_of(processes, holders, process, id);
 }
 
+/// How a process has a coffer mapped; none for a coffer past 256.
+pub fn mapping_at(mappings: &[Option<Mapping>], process: u8, id: u16) -> Option<Mapping>
+    requires places { length mappings.now ≡ 16448 }
+    requires process { process < 64 }
+    ensures inside { id ≤ 256 → result ≡ spec_mapping mappings.now process id }
+    ensures past { 256 < id → result ≡ None }
+{
+    if id < COFFERS {
+        mappings[place_of(process, id)]
+    } else {
+        None
+    }
+}
+
+/// The process hasn't the coffer mapped.
+fn forget(mappings: &mut [Option<Mapping>], process: u8, id: u16)
+    requires { spec_place process id < length mappings.old }
+    ensures { mappings.new ≡ slice_set mappings.old (spec_place process id) None }
+{
+    mappings[place_of(process, id)] = None;
+}
+
 /// No process has the coffer mapped.
 pub fn drop_coffer(mappings: &mut [Option<Mapping>], id: u16)
+    requires places { length mappings.old ≡ 16448 }
     ensures len { length mappings.new ≡ length mappings.old }
     ensures gone { (k : ℕ) → k % 257 ≡ id → slice_index_or mappings.new k None ≡ None }
     ensures others { (k : ℕ) → k % 257 ≢ id → slice_index_or mappings.new k None ≡ slice_index_or mappings.old k None }
 {
-    for (place, mapping) in mappings.iter_mut().enumerate() {
-        if place % COFFERS == usize::from(id) {
-            *mapping = None;
+    if id < COFFERS {
+        for process in 0..PROCESSES {
+            forget(mappings, process, id);
         }
     }
 }
 
 /// The process has no coffer mapped.
 pub fn drop_process(mappings: &mut [Option<Mapping>], process: u8)
+    requires places { length mappings.old ≡ 16448 }
     ensures len { length mappings.new ≡ length mappings.old }
     ensures gone { (k : ℕ) → k / 257 ≡ process → slice_index_or mappings.new k None ≡ None }
     ensures others { (k : ℕ) → k / 257 ≢ process → slice_index_or mappings.new k None ≡ slice_index_or mappings.old k None }
 {
-    for (place, mapping) in mappings.iter_mut().enumerate() {
-        if place / COFFERS == usize::from(process) {
-            *mapping = None;
+    if process < PROCESSES {
+        for id in 0..COFFERS {
+            forget(mappings, process, id);
         }
     }
 }
@@ -102,36 +128,5 @@ pub fn put_pages(owners: &mut [u16], id: u16, pages: &[u32])
 {
     for &page in pages {
         owners[page as usize] = id;
-    }
-}
-
-/// No page stands under the coffer.
-pub fn drop_pages_of(owners: &mut [u16], id: u16)
-    ensures { owners.new ≡ tables.without_pages_of id owners.old }
-{
-    for owner in owners.iter_mut() {
-        if *owner == id {
-            *owner = 0;
-        }
-    }
-}
-
-/// Once nobody holds the coffer, no page stands under it.
-pub fn drop_pages_unless_held(owners: &mut [u16], holders: &[Holder], id: u16)
-    ensures { owners.new ≡ tables.owners_unmapped id holders.now owners.old }
-{
-    if !is_held(holders, id) {
-        drop_pages_of(owners, id);
-    }
-}
-
-/// A page stands only under a coffer that somebody holds.
-pub fn keep_held_pages(owners: &mut [u16], holders: &[Holder])
-    ensures { owners.new ≡ tables.with_held_pages holders.now owners.old }
-{
-    for owner in owners.iter_mut() {
-        if !is_held(holders, *owner) {
-            *owner = 0;
-        }
     }
 }

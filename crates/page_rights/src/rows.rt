@@ -1,14 +1,13 @@
 // What the list of holders says.
 ghost use Rattle.std.specs.Prelude.{◌≡◌, ◌≤◌, ◌==◌, not, Some, IsSome, OnOk, OnErr};
 ghost use Rattle.tr_types.specs.Rights as rights;
+ghost use Rattle.tr_types.specs.KernelCalls as calls;
 ghost use Rattle.std.specs.Vec.{vec_len, vec_capacity};
 ghost use Rattle.page_rights.specs.Lookup as lookup;
-ghost use Rattle.page_rights.specs.Tables as tables;
 
 use crate::mapping::Mapping;
-use bitflags::Flags;
 use std::alloc::AllocError;
-use tr_types::{Holder, Right};
+use tr_types::Holder;
 
 /// The process of a thread, by the thread's number.
 pub fn process_at(processes: &[Option<u8>], thread: u16) -> Option<u8>
@@ -54,20 +53,11 @@ pub fn is_writable(processes: &[Option<u8>], holders: &[Holder], process: u8, id
     ensures { result ≡ lookup.is_writable_in processes.now holders.now process id }
 {
     for holder in holders {
-        if holder.id == id
-            && is_in(processes, holder.thread, process)
-            && allows_writing(holder.right)
-        {
+        if holder.id == id && is_in(processes, holder.thread, process) && holder.right.writes() {
             return true;
         }
     }
     false
-}
-
-fn allows_writing(right: Right) -> bool
-    ensures { result ≡ rights.allows_writing right }
-{
-    right.contains(Right::WRITE)
 }
 
 /// How the process has the coffer mapped.
@@ -149,24 +139,54 @@ fn lesser(least: Option<u16>, thread: u16) -> u16
     }
 }
 
-/// Whether the thread itself holds the coffer.
-pub fn holds_itself(holders: &[Holder], thread: u16, id: u16) -> bool
-    ensures { result ≡ rights.holds_itself thread id holders.now }
+fn is_row_of(holder: &Holder, thread: u16, id: u16) -> bool
+    ensures { result ≡ rights.is_row_of thread id holder.now }
+{
+    holder.thread == thread && holder.id == id
+}
+
+/// The thread's own row of the coffer.
+pub fn own_row(holders: &[Holder], thread: u16, id: u16) -> Option<Holder>
+    ensures { result ≡ calls.own_row thread id holders.now }
 {
     for holder in holders {
-        if holder.thread == thread && holder.id == id {
+        if is_row_of(holder, thread, id) {
+            return Some(*holder);
+        }
+    }
+    None
+}
+
+/// Whether the thread itself holds the coffer.
+pub fn holds_any(holders: &[Holder], thread: u16, id: u16) -> bool
+    ensures { result ≡ calls.holds_any thread id holders.now }
+{
+    for holder in holders {
+        if is_row_of(holder, thread, id) {
             return true;
         }
     }
     false
 }
 
-/// Whether some thread holds the coffer.
-pub fn is_held(holders: &[Holder], id: u16) -> bool
-    ensures { result ≡ rights.is_held id holders.now }
+/// Whether the thread itself holds the coffer for writing.
+pub fn holds_for_writing(holders: &[Holder], thread: u16, id: u16) -> bool
+    ensures { result ≡ calls.holds_for_writing thread id holders.now }
 {
     for holder in holders {
-        if holder.id == id {
+        if is_row_of(holder, thread, id) && holder.right.writes() {
+            return true;
+        }
+    }
+    false
+}
+
+/// Whether the thread itself holds the coffer as its owner, for itself alone.
+pub fn holds_as_owner(holders: &[Holder], thread: u16, id: u16) -> bool
+    ensures { result ≡ calls.holds_as_owner thread id holders.now }
+{
+    for holder in holders {
+        if is_row_of(holder, thread, id) && holder.right.owns() && holder.exclusive {
             return true;
         }
     }
@@ -182,7 +202,7 @@ pub fn drop_row(holders: &mut Vec<Holder>, thread: u16, id: u16)
     holders.retain(
         |h: &Holder| -> bool
             ensures { result ≡ not (rights.is_row_of thread id h.now) }
-        { !(h.thread == thread && h.id == id) },
+        { !is_row_of(h, thread, id) },
     );
 }
 
@@ -199,7 +219,7 @@ pub fn put_row(holders: &mut Vec<Holder>, row: Holder) -> Result<(), AllocError>
 
 /// Ends all maps of the coffer.
 pub fn drop_coffer(holders: &mut Vec<Holder>, id: u16)
-    ensures { holders.new.items ≡ tables.without_coffer id holders.old.items }
+    ensures { holders.new.items ≡ calls.without_coffer id holders.old.items }
 {
     holders.retain(
         |h: &Holder| -> bool

@@ -1,16 +1,14 @@
 // The tables of all processes.
 ghost use Rattle.std.specs.Prelude.{◌≡◌, ◌≢◌, ℕ, ◌<◌, ◌≤◌, ◌↔◌, [], length, filter, slice_index, All, IsTrue, true, None, Some, IsSome, IfSome, IfOk, OnOk, OnErr};
-ghost use Rattle.std.specs.Result.{IsErrOf};
+ghost use Rattle.std.specs.Result.{IsErrOf, IsOk};
 ghost use Rattle.tr_types.specs.Rights as rights;
+ghost use Rattle.tr_types.specs.KernelCalls as calls;
 ghost use Rattle.page_rights.specs.Lookup as lookup;
 ghost use Rattle.page_rights.specs.Tables as spec;
 
-use crate::mapping::{
-    self, Mapping, drop_pages_of, drop_pages_unless_held, keep_held_pages, look_up, nothing,
-    owner_of, place_of, put_pages, unowned,
-};
+use crate::mapping::{self, Mapping, look_up, mapping_at, nothing, put_pages, unowned};
 use crate::pkru::Pkru;
-use crate::rows::{self, drop_row, holds_itself, key_for, least_against, process_of, put_row};
+use crate::rows::{self, drop_row, holds_any, key_for, least_against, process_of, put_row};
 use std::alloc::{AllocError, Global};
 use std::marker::Model;
 use thiserror::Error;
@@ -33,10 +31,12 @@ pub enum MapFault {
     NoMemory,
 }
 
-/// The coffers that each process has mapped, with their pages.
+/// The coffers that each process has mapped, and the coffer under which each page stands. A page stands
+/// under its coffer whether anybody holds that or not.
 ///
 /// Up to 256 threads in 64 processes, and 256 coffers, 1 to 256. A loading or storing thread is
-/// answered at a cost that doesn't grow with pages, processes, threads or holders.
+/// answered at a cost that doesn't grow with pages, processes, threads or holders. No other call but
+/// `new` costs by the pages of the image.
 #[derive(Drop)]
 pub struct Tables {
     threads: Vec<(u16, u8)>,
@@ -57,7 +57,7 @@ impl Model for Tables {
 
     ghost view = { λ t. record { threads = t.threads.items; holders = t.holders.items; owners = t.owners.items } };
 
-    ghost invariant = { λ t. AreTied t.threads.items t.processes.items t.holders.items t.owners.items t.mappings.items };
+    ghost invariant = { λ t. AreTied t.threads.items t.processes.items t.holders.items t.mappings.items };
 }
 
 impl Tables {
@@ -96,7 +96,8 @@ impl Tables {
 
     /// Maps a coffer of 1 to 256 for a thread, and answers the key: that which its process has for it,
     /// or else the least of 1 to 15 that is free. The thread's earlier map of the coffer ends. Right
-    /// Write is for loads and stores, each other for loads.
+    /// Write is for loads and stores, each other for loads. The pages are put under the coffer as by
+    /// `add_pages`.
     ///
     /// `InUse` comes before `NoKey`. An error leaves the tables as they were.
     pub fn map(
@@ -111,10 +112,8 @@ impl Tables {
         requires least_id { 1 ≤ id }
         requires greatest_id { id ≤ 256 }
         requires pages { All (spec.MayStand id self.old.owners) pages.now }
-        requires same { IsTrue (rights.is_held id self.old.holders) → spec.AreItsPages id pages.now self.old.owners }
         ensures ok { IfOk result (λ key.
             self.new ≡ spec.mapped (record { thread = thread; id = id; key = key; right = right; exclusive = exclusive }) pages.now self.old) }
-        ensures held { OnOk result (IsTrue (rights.is_held id self.new.holders)) }
         ensures free { OnOk result (rights.those_against thread id exclusive self.old.holders ≡ []) }
         ensures key { IfOk result (λ key. rights.key_for self.old.threads self.old.holders thread id ≡ Some key) }
         ensures in_use { (other : ℕ) → IsErrOf result (MapFault.InUse other) ↔ rights.IsLeastOf (rights.those_against thread id exclusive self.old.holders) other }
@@ -152,21 +151,20 @@ impl Tables {
         Ok(key)
     }
 
-    /// Ends a thread's map of a coffer, and answers whether it had one. With the last map of a coffer its
-    /// pages leave the tables. Takes no memory.
+    /// Ends a thread's map of a coffer, and answers whether it had one. Pages stay under their coffer.
+    /// Takes no memory.
     pub fn unmap(&mut self, thread: u16, id: u16) -> bool
         requires started { IsSome (rights.process_of self.old.threads thread) }
-        ensures held { result ≡ rights.holds_itself thread id self.old.holders }
+        ensures held { result ≡ calls.holds_any thread id self.old.holders }
         ensures after { self.new ≡ spec.unmapped thread id self.old }
         ensures threads_stay { self.new.threads ≡ self.old.threads }
         ensures pages_stay { length self.new.owners ≡ length self.old.owners }
     {
-        if !holds_itself(&self.holders, thread, id) {
+        if !holds_any(&self.holders, thread, id) {
             return false;
         }
         let process = process_of(&self.processes, thread);
         drop_row(&mut self.holders, thread, id);
-        drop_pages_unless_held(&mut self.owners, &self.holders, id);
         look_up(
             &mut self.mappings,
             &self.processes,
@@ -189,6 +187,43 @@ impl Tables {
             .collect(alloc)
     }
 
+    /// A thread's own row of a coffer. It has at most one. Takes no memory.
+    pub fn row(&self, thread: u16, id: u16) -> Option<Holder>
+        ensures row { result ≡ calls.own_row thread id self.now.holders }
+        ensures sound { spec.IsSound self.now }
+    {
+        rows::own_row(&self.holders, thread, id)
+    }
+
+    /// Whether a thread itself holds a coffer. Takes no memory.
+    pub fn holds_any(&self, thread: u16, id: u16) -> bool
+        ensures { result ≡ calls.holds_any thread id self.now.holders }
+    {
+        rows::holds_any(&self.holders, thread, id)
+    }
+
+    /// Whether a thread itself holds a coffer with the right Write. Takes no memory.
+    pub fn holds_for_writing(&self, thread: u16, id: u16) -> bool
+        ensures { result ≡ calls.holds_for_writing thread id self.now.holders }
+    {
+        rows::holds_for_writing(&self.holders, thread, id)
+    }
+
+    /// Whether a thread itself holds a coffer exclusively and with the right Own. Takes no memory.
+    pub fn holds_as_owner(&self, thread: u16, id: u16) -> bool
+        ensures { result ≡ calls.holds_as_owner thread id self.now.holders }
+    {
+        rows::holds_as_owner(&self.holders, thread, id)
+    }
+
+    /// The coffer under which a page stands, whether anybody holds it or not; 0 for none and past the
+    /// last page. Takes no memory.
+    pub fn owner_of(&self, page: u32) -> u16
+        ensures { result ≡ slice_index self.now.owners page }
+    {
+        mapping::owner_of(&self.owners, page)
+    }
+
     /// Why a load of a page by a thread is refused; none if it may. A page past the last is not mapped.
     /// Takes no memory.
     pub fn may_load(&self, thread: u16, pkru: Pkru, page: u32) -> Option<FaultKind>
@@ -209,12 +244,12 @@ impl Tables {
         store_fault(self.mapping(thread, page), pkru)
     }
 
-    /// Puts pages into the tables of all holders of a coffer. An error leaves the tables as they were.
+    /// Puts pages under a coffer, and so into the tables of all its holders, present and later. Takes no
+    /// memory, and is always `Ok`.
     pub fn add_pages(&mut self, id: u16, pages: &[u32]) -> Result<(), AllocError>
-        requires held { IsTrue (rights.is_held id self.old.holders) }
         requires pages { All (spec.MayStand id self.old.owners) pages.now }
-        ensures ok { OnOk result (self.new ≡ spec.with_owners (spec.with_pages id pages.now self.old.owners) self.old) }
-        ensures err { OnErr result (self.new ≡ self.old) }
+        ensures ok { IsOk result }
+        ensures after { self.new ≡ spec.with_owners (spec.with_pages id pages.now self.old.owners) self.old }
         ensures threads_stay { self.new.threads ≡ self.old.threads }
         ensures pages_stay { length self.new.owners ≡ length self.old.owners }
     {
@@ -222,7 +257,7 @@ impl Tables {
         Ok(())
     }
 
-    /// Takes pages out of all tables. Takes no memory.
+    /// Takes pages out of all tables: they stand under no coffer. Takes no memory.
     pub fn take_pages(&mut self, pages: &[u32])
         requires pages { All (λ page. page < length self.old.owners) pages.now }
         ensures after { self.new ≡ spec.with_owners (spec.with_pages 0 pages.now self.old.owners) self.old }
@@ -232,26 +267,23 @@ impl Tables {
         put_pages(&mut self.owners, 0, pages);
     }
 
-    /// Ends all maps of a coffer. Takes no memory.
+    /// Ends all maps of a coffer. Pages stay under it. Takes no memory.
     pub fn drop_coffer(&mut self, id: u16)
         ensures after { self.new ≡ spec.coffer_dropped id self.old }
         ensures threads_stay { self.new.threads ≡ self.old.threads }
         ensures pages_stay { length self.new.owners ≡ length self.old.owners }
     {
         rows::drop_coffer(&mut self.holders, id);
-        drop_pages_of(&mut self.owners, id);
         mapping::drop_coffer(&mut self.mappings, id);
     }
 
-    /// Ends all maps of a process. Pages of coffers that nobody holds then leave the tables. Takes no
-    /// memory.
+    /// Ends all maps of a process. Pages stay under their coffers. Takes no memory.
     pub fn drop_process(&mut self, process: u8)
         ensures after { self.new ≡ spec.process_dropped process self.old }
         ensures threads_stay { self.new.threads ≡ self.old.threads }
         ensures pages_stay { length self.new.owners ≡ length self.old.owners }
     {
         rows::drop_process(&mut self.holders, &self.processes, process);
-        keep_held_pages(&mut self.owners, &self.holders);
         mapping::drop_process(&mut self.mappings, process);
     }
 
@@ -262,9 +294,9 @@ impl Tables {
         ensures key { IfSome result (λ mapping. mapping.key ≤ 15) }
         ensures sound { spec.IsSound self.now }
     {
-        let id = owner_of(&self.owners, page);
+        let id = mapping::owner_of(&self.owners, page);
         let process = process_of(&self.processes, thread);
-        self.mappings[place_of(process, id)]
+        mapping_at(&self.mappings, process, id)
     }
 
     /// The process of a thread; none where it wasn't started. Takes no memory.

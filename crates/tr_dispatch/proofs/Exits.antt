@@ -1,14 +1,20 @@
 -- What a session gives, exit by exit.
-use Rattle.std.proofs.Common.{◌≡◌, inl, inr, ℕ, List, [], ◌∷◌, slice_index_or, Bool, true, false, not, ◌&&◌, ◌||◌, cond, Some, None, refl, ap, sym, subst, ◌∙◌, Contains}
+use Rattle.std.proofs.Common.{◌≡◌, inl, inr, ℕ, List, [], ◌∷◌, slice_index_or, Bool, true, false, not, ◌&&◌, ◌||◌, cond, Some, None, refl, ap, sym, subst, ◌∙◌, Contains, length}
+use Rattle.std.specs.Prelude.{nat_lt}
 use Rattle.std.proofs.lemmas.Bool.{eq-eqb}
 use Rattle.pm_words.specs.Word.{Word}
 use Rattle.zo_layout.specs.Layout.{page_at}
-use Rattle.tr_types.specs.Machine.{Bus, Answers, IsGiven, MapAnswers, UnmapAnswers, root_mapped, found_at}
+use Rattle.tr_types.specs.Machine.{Bus, Answers, callers_of, coffer_of, acted}
+use Rattle.tr_types.specs.KernelCalls.{answer_of, words_after, holders_after, IsPathText, IsOneRight}
+use Rattle.tr_types.specs.KernelTables.{Coffer as CofferEntry}
+use Rattle.tr_types.specs.Paths.{is_path_text}
+use Rattle.tr_types.specs.RootCoffer.{IsRootAlone, IsGiven, MapAnswers, UnmapAnswers, root_held, root_mapped, found_at}
+use Rattle.tr_types.proofs.RootLemmas.{located_root, good_look, find_answer, find_words, find_held, map_answers, map_words, map_held, unmap_answers, unmap_words, unmap_held}
 use Rattle.tr_types.specs.Rights.{closed_pkru, only_pkru, key_for, those_against, with_row, without_row, is_row_of, holds_itself, IsLeastOf}
 use Rattle.tr_types.specs.Commands.{IsPath, IsCommand, consulted_path, right_needed}
 use Rattle.tr_types.specs.Marks.{mark_of, pkru_mark}
-use Rattle.tr_types.specs.Tree.{Member}
-use Rattle.tr_types.specs.World.{World, Phase, NotYet, Idle, Runs, Committed, MayAct, MayReply, told, pool_of, consulted_after}
+use Rattle.tr_types.specs.Tree.{Member, names_of}
+use Rattle.tr_types.specs.World.{World, Phase, NotYet, Idle, Runs, Committed, MayAct, MayReply, SparesKernel, told, pool_of, consulted_after}
 use Rattle.tr_types.specs.declared.action.Action.{Action}
 use Rattle.tr_types.specs.declared.action.Action.TheVariants.{Pkru, Kernel}
 use Rattle.tr_types.specs.declared.action.Answer.{Answer}
@@ -35,13 +41,14 @@ use Rattle.zo_ops.proofs.LoadSteps.{ground_denotes}
 use Rattle.zo_ops.proofs.Members.{contains_none}
 use Rattle.tr_dispatch.specs.declared.session.Next.TheVariants as next
 use Rattle.tr_dispatch.specs.declared.session.Stage.TheVariants as stage
-use Rattle.tr_dispatch.specs.Sessions.{writes, right_of, row_of, open_pkru, IsPhaseOf, WorksFor, KnowsAt, SessionGoes, NextFrom}
-use Rattle.tr_dispatch.proofs.Permits.{permitted}
+use Rattle.tr_dispatch.specs.Sessions.{writes, right_of, row_of, open_pkru, IsPhaseOf, IsGrounded, WorksFor, KnowsAt, SessionGoes, NextFrom}
+use Rattle.tr_dispatch.proofs.KernelLaws.{ground_kernel, kernel_stays}
+use Rattle.tr_dispatch.proofs.Permits.{permitted, leaves}
 use Rattle.tr_dispatch.proofs.Worlds.{knows_after, register_set, told_pkru, told_unmap, phase_of_after, control_stays, dir_stays, holders_stay, registers_stay, consulted_stays, is_built, maps_none, finds_none, spares}
 use Rattle.tr_dispatch.proofs.Register.{shut}
 
 -- only the kernel answers a call of the kernel, and a register is written
-by_kernel : (P : Answer → Type 0) (bus : Bus) (thread : ℕ) (call : Kcall) → ((answer : KernAnswer) → Answers bus thread (Kernel call) (Kern answer) → P (Kern answer)) → (answer : Answer) → Answers bus thread (Kernel call) answer → P answer
+by_kernel : (P : Answer → Type 0) (bus : Bus) (thread : ℕ) (call : Kcall) → ((answer : KernAnswer) → answer ≡ answer_of (callers_of bus) bus.words bus.holders thread 0 call → P (Kern answer)) → (answer : Answer) → Answers bus thread 0 (Kernel call) answer → P answer
 by_kernel P bus thread call p (WordIs x) a = absurd a
 by_kernel P bus thread call p Done a = absurd a
 by_kernel P bus thread call p (Fault kind) a = absurd a
@@ -112,24 +119,43 @@ consults_path command path valid is = subst IsPath (sym is) (by command valid)
     by (Create name mode) given = inl refl
     by (Stat name) given = given
 
+-- and is one that a script can write
+path_text : (path : List ℕ) → IsPath path → IsPathText path
+path_text path is = by (is_path_text path) (good_look path is)
+  where
+    by : (b : Bool) → (not b || nat_lt 1024 (length path) || nat_lt 32 (length (names_of path))) ≡ false → b ≡ true
+    by true e = refl
+    by false e = let clash : true ≡ false = e in cc
+
+-- every path lies in the root coffer
+coffer_is : (words : List Word) (path : List ℕ) → IsRootAlone words → coffer_of words path ≡ 1
+coffer_is words path alone = ap (λ (c : CofferEntry). c.id) (located_root words path alone)
+
 -- The first look: the coffer of the path that the command consults.
 pub find_gives : (thread : ℕ) (command : Command) (answer : Answer) (path : List ℕ) → path ≡ consulted_path command → NextFrom thread command stage.Begin answer (next.Act Plain (Kernel (kcall.Find path None)) stage.Finding)
 find_gives thread command answer path is w (sits, (bare, grounded, phase)) = record {
   marked = refl;
-  built = (consults_path command path sits.valid is, refl);
+  built = (path_text path is_path, tt);
   shut = λ _ key opened. shut w.machine.bus thread key bare.register opened;
-  goes = by_kernel _ w.machine.bus thread (kcall.Find path None) (λ found a. subst (λ r. SessionGoes (KnowsAt thread command stage.Finding) thread Plain (Kernel (kcall.Find path None)) w (Kern r)) (sym (a.1 ∙ ap (λ (p : List ℕ). kern.Found (found_at p) None) is)) goes);
+  goes = by_kernel _ w.machine.bus thread (kcall.Find path None) (λ found a. subst (λ r. SessionGoes (KnowsAt thread command stage.Finding) thread Plain (Kernel (kcall.Find path None)) w (Kern r))
+      (sym (a ∙ find_answer (callers_of w.machine.bus) w.machine.bus.words w.machine.bus.holders thread 0 grounded.2 path is_path ∙ ap (λ (p : List ℕ). kern.Found (found_at p) None) is)) goes);
 }
   where
+    is_path : IsPath path
+    is_path = consults_path command path sits.valid is
+
+    left : IsGrounded (words_after (callers_of w.machine.bus) w.machine.bus.words w.machine.bus.holders thread 0 (kcall.Find path None)) w.tree
+    left = subst (λ ws. IsGrounded ws w.tree) (sym (find_words (callers_of w.machine.bus) w.machine.bus.words w.machine.bus.holders thread 0 grounded.2 path None)) grounded
+
     goes : SessionGoes (KnowsAt thread command stage.Finding) thread Plain (Kernel (kcall.Find path None)) w (Kern (kern.Found (found_at (consulted_path command)) None))
     goes = record {
       legal = (subst (λ p. MayAct w.tree p (Kernel (kcall.Find path None))) (sym phase) (is, refl), tt, tt);
-      denotes = ground_denotes grounded.0 _ _ grounded.1;
+      denotes = ground_denotes left.0 _ _ left.1;
       knows = knows_after thread command w Plain (Kernel (kcall.Find path None)) (Kern (kern.Found (found_at (consulted_path command)) None)) stage.Finding sits (
-        record { holds = bare.holds; register = bare.register },
-        grounded,
+        record { holds = find_held (callers_of w.machine.bus) w.machine.bus.words w.machine.bus.holders thread 0 grounded.2 path None ∙ bare.holds; register = bare.register },
+        left,
         ap (λ (p : Phase). told (pool_of w.machine.bus.words) p (Kernel (kcall.Find path None)) (Kern (kern.Found (found_at (consulted_path command)) None))) phase,
-        ap (λ (p : Phase). consulted_after w.machine.bus.words p (Kernel (kcall.Find path None)) (Kern (kern.Found (found_at (consulted_path command)) None)) (w.consulted thread)) phase,
+        ap (λ (p : Phase). consulted_after w.machine.bus.words p (Kernel (kcall.Find path None)) (Kern (kern.Found (found_at (consulted_path command)) None)) (w.consulted thread)) phase ∙ ap Some (coffer_is w.machine.bus.words (consulted_path command) grounded.2),
         refl,
       );
     }
@@ -139,24 +165,53 @@ given : (command : Command) → IsGiven (right_of command)
 given (Create path mode) = inr refl
 given (Stat path) = inl refl
 
+one_right : (right : Right) → IsGiven right → IsOneRight right
+one_right right (inl reads) = inl reads
+one_right right (inr writes) = inr (inl writes)
+
 needed : (command : Command) → (right_of command).0 ≡ right_needed command
 needed (Create path mode) = refl
 needed (Stat path) = refl
 
 module _ (thread : ℕ) (command : Command) (answer : Answer) (path : List ℕ) (right : Right) (is : path ≡ consulted_path command) (right_is : right ≡ right_of command) (w : World) (k : KnowsAt thread command stage.Finding answer w) where
-  map_goes : SessionGoes (KnowsAt thread command stage.Mapping) thread Plain (Kernel (kcall.Map path right false)) w (Kern (kern.Mapped (root_mapped w.machine.bus.words 1)))
-  map_goes = record {
-    legal = (subst (λ p. MayAct w.tree p (Kernel (kcall.Map path right false))) (sym k.1.2) (is, ap (λ (r : Right). r.0) right_is ∙ needed command, refl), tt, k.1.3);
-    denotes = ground_denotes k.1.1.0 _ _ k.1.1.1;
-    knows = knows_after thread command w Plain (Kernel (kcall.Map path right false)) (Kern (kern.Mapped (root_mapped w.machine.bus.words 1))) stage.Mapping k.0 (
-      record {
-        holds = (λ i. with_row (record { thread = thread; id = 1; key = 1; right = right_is i; exclusive = false }) (k.1.0.holds i));
-        register = k.1.0.register;
-      },
-      k.1.1,
-      ap (λ (p : Phase). told (pool_of w.machine.bus.words) p (Kernel (kcall.Map path right false)) (Kern (kern.Mapped (root_mapped w.machine.bus.words 1)))) k.1.2,
-      ap (λ (p : Phase). consulted_after w.machine.bus.words p (Kernel (kcall.Map path right false)) (Kern (kern.Mapped (root_mapped w.machine.bus.words 1))) (w.consulted thread)) k.1.2 ∙ k.1.3,
-      refl,
+  abbrev call : Kcall
+  call = kcall.Map path right false
+
+  -- what the kernel answers to the map
+  abbrev told_by : KernAnswer
+  told_by = answer_of (callers_of w.machine.bus) w.machine.bus.words w.machine.bus.holders thread 0 call
+
+  alone : IsRootAlone w.machine.bus.words
+  alone = k.1.1.2
+
+  is_path : IsPath path
+  is_path = consults_path command path k.0.valid is
+
+  is_given : IsGiven right
+  is_given = subst IsGiven (sym right_is) (given command)
+
+  same_words : words_after (callers_of w.machine.bus) w.machine.bus.words w.machine.bus.holders thread 0 call ≡ w.machine.bus.words
+  same_words = map_words w.machine.bus thread 0 alone path right false is_path is_given
+
+  left : IsGrounded (words_after (callers_of w.machine.bus) w.machine.bus.words w.machine.bus.holders thread 0 call) w.tree
+  left = subst (λ ws. IsGrounded ws w.tree) (sym same_words) k.1.1
+
+  rows : kern.Mapped (root_mapped w.machine.bus.words 1) ≡ told_by → holders_after (callers_of w.machine.bus) w.machine.bus.words w.machine.bus.holders thread 0 call ≡ row_of thread command ∷ []
+  rows a =
+      map_held w.machine.bus thread 0 alone path right false is_path is_given
+      ∙ ap (λ (r : KernAnswer). root_held thread call r w.machine.bus.holders) (sym a)
+      ∙ (λ i. with_row (record { thread = thread; id = 1; key = 1; right = right_is i; exclusive = false }) (k.1.0.holds i))
+
+  map_goes : kern.Mapped (root_mapped w.machine.bus.words 1) ≡ told_by → SessionGoes (KnowsAt thread command stage.Mapping) thread Plain (Kernel call) w (Kern (kern.Mapped (root_mapped w.machine.bus.words 1)))
+  map_goes a = record {
+    legal = (subst (λ p. MayAct w.tree p (Kernel call)) (sym k.1.2) (is, ap (λ (r : Right). r.0) right_is ∙ needed command, refl), tt, k.1.3 ∙ sym (ap Some (coffer_is w.machine.bus.words path alone)));
+    denotes = ground_denotes left.0 _ _ left.1;
+    knows = knows_after thread command w Plain (Kernel call) (Kern (kern.Mapped (root_mapped w.machine.bus.words 1))) stage.Mapping k.0 (
+      record { holds = rows a; register = k.1.0.register },
+      left,
+      ap (λ (p : Phase). told (pool_of w.machine.bus.words) p (Kernel call) (Kern (kern.Mapped (root_mapped w.machine.bus.words 1)))) k.1.2,
+      ap (λ (p : Phase). consulted_after w.machine.bus.words p (Kernel call) (Kern (kern.Mapped (root_mapped w.machine.bus.words 1))) (w.consulted thread)) k.1.2 ∙ k.1.3,
+      ap (λ (ws : List Word). Kern (kern.Mapped (root_mapped ws 1))) (sym same_words),
     );
   }
 
@@ -167,21 +222,25 @@ module _ (thread : ℕ) (command : Command) (answer : Answer) (path : List ℕ) 
   nobody : (other : ℕ) → IsLeastOf (those_against thread 1 false w.machine.bus.holders) other → ⊥
   nobody other least = contains_none other (subst (λ (hs : List Holder). Contains (those_against thread 1 false hs) other) k.1.0.holds least.among)
 
-  mapped_goes : (m : Mapped) → MapAnswers w.machine.bus thread false (kern.Mapped m) → SessionGoes (KnowsAt thread command stage.Mapping) thread Plain (Kernel (kcall.Map path right false)) w (Kern (kern.Mapped m))
+  -- so the map is done, where this is the answer
+  abbrev Goes : KernAnswer → Type 0
+  Goes r = r ≡ told_by → SessionGoes (KnowsAt thread command stage.Mapping) thread Plain (Kernel call) w (Kern r)
+
+  mapped_goes : (m : Mapped) → MapAnswers w.machine.bus thread false (kern.Mapped m) → Goes (kern.Mapped m)
   mapped_goes m a =
       let both : Some m.key ≡ Some 1 = sym a.1 ∙ key_is in
       let key : m.key ≡ 1 = cc in
       let whole : m ≡ root_mapped w.machine.bus.words 1 = a.2 ∙ ap (root_mapped w.machine.bus.words) key in
-      subst (λ (m : Mapped). SessionGoes (KnowsAt thread command stage.Mapping) thread Plain (Kernel (kcall.Map path right false)) w (Kern (kern.Mapped m))) (sym whole) map_goes
+      subst (λ (m : Mapped). Goes (kern.Mapped m)) (sym whole) map_goes
 
-  map_answered : (answer : Answer) → Answers w.machine.bus thread (Kernel (kcall.Map path right false)) answer → SessionGoes (KnowsAt thread command stage.Mapping) thread Plain (Kernel (kcall.Map path right false)) w answer
-  map_answered = by_kernel (SessionGoes (KnowsAt thread command stage.Mapping) thread Plain (Kernel (kcall.Map path right false)) w) w.machine.bus thread (kcall.Map path right false)
-      (λ r a. by_mapped (λ r. SessionGoes (KnowsAt thread command stage.Mapping) thread Plain (Kernel (kcall.Map path right false)) w (Kern r)) w.machine.bus thread nobody key_is mapped_goes r a.2)
+  map_answered : (answer : Answer) → Answers w.machine.bus thread 0 (Kernel call) answer → SessionGoes (KnowsAt thread command stage.Mapping) thread Plain (Kernel call) w answer
+  map_answered = by_kernel (SessionGoes (KnowsAt thread command stage.Mapping) thread Plain (Kernel call) w) w.machine.bus thread call
+      (λ r a. by_mapped Goes w.machine.bus thread nobody key_is mapped_goes r (subst (MapAnswers w.machine.bus thread false) (sym a) (map_answers w.machine.bus thread 0 alone path right false is_path is_given)) a)
 
 pub map_gives : (thread : ℕ) (command : Command) (answer : Answer) (path : List ℕ) (right : Right) → path ≡ consulted_path command → right ≡ right_of command → NextFrom thread command stage.Finding answer (next.Act Plain (Kernel (kcall.Map path right false)) stage.Mapping)
 map_gives thread command answer path right is right_is w k = record {
   marked = refl;
-  built = (consults_path command path k.0.valid is, subst IsGiven (sym right_is) (given command));
+  built = (path_text path (consults_path command path k.0.valid is), one_right right (subst IsGiven (sym right_is) (given command)));
   shut = λ _. tt;
   goes = map_answered thread command answer path right is right_is w k;
 }
@@ -210,6 +269,7 @@ module _ (thread : ℕ) (command : Command) (answer : Answer) (m : Mapped) (call
     command_is = begins.command_is;
     control = begins.control ∙ ap (λ (m : Mapped). page_at m.control) whole;
     dir = begins.dir ∙ ap (λ (m : Mapped). page_at m.root) whole;
+    kernel = ground_kernel k.1.1.0 w.machine.bus.words w.tree k.1.1.1 k.1.1.2;
   }
 
   ground : Ground call.coffer w.machine.bus.words w.tree
@@ -248,6 +308,7 @@ module _ (thread : ℕ) (command : Command) (answer : Answer) (old new : CallRun
     command_is = same ∙ k.1.1.command_is;
     control = ap (λ (c : Coffer). c.control.at) coffer ∙ k.1.1.control;
     dir = ap (λ (c : Coffer). c.dir.at) coffer ∙ k.1.1.dir;
+    kernel = k.1.1.kernel;
   }
 
   gives : ActGives (CallKnows new) new.command.now mark action w.machine.bus.words w.tree (w.phases thread)
@@ -256,21 +317,27 @@ module _ (thread : ℕ) (command : Command) (answer : Answer) (old new : CallRun
   reached : IsReachable command w.machine.bus.words action
   reached = subst (λ (c : Command). IsReachable c w.machine.bus.words action) works_still.command_is gives.reachable
 
-  act_goes : (a : Answer) → Answers w.machine.bus thread action a → SessionGoes (KnowsAt thread command (stage.Working new)) thread mark action w a
+  spared : SparesKernel w.machine.bus.words action
+  spared = spares w.machine.bus.words old.coffer.control.at action k.1.1.control of.0
+
+  act_goes : (a : Answer) → Answers w.machine.bus thread 0 action a → SessionGoes (KnowsAt thread command (stage.Working new)) thread mark action w a
   act_goes a answers =
-      let goes = gives.goes a (permitted w.machine.bus thread command k.0.lives k.1.0 action reached a answers) in
+      let by_words = permitted w.machine.bus thread command k.0.lives k.1.0 k.1.1.kernel action reached a answers in
+      let left = leaves w.machine.bus thread command k.0.lives k.1.0 k.1.1.kernel action reached a answers in
+      let goes = gives.goes a (acted thread 0 action a w.machine.bus) by_words left in
       record {
-        legal = (goes.legal, spares w.machine.bus.words old.coffer.control.at action k.1.1.control of.0, maps_none command w.machine.bus.words (w.consulted thread) action reached);
+        legal = (goes.legal, spared, maps_none command w.machine.bus.words (w.consulted thread) action reached);
         denotes = goes.denotes;
         knows = knows_after thread command w mark action a (stage.Working new) k.0 (
           record {
-            holds = holders_stay command w.machine.bus.words thread action a w.machine.bus.holders reached ∙ k.1.0.holds;
+            holds = holders_stay command w.machine.bus k.1.1.kernel thread action a reached ∙ k.1.0.holds;
             register = ap (λ (ps : List ℕ). slice_index_or ps thread closed_pkru) (registers_stay command w.machine.bus.words thread action a w.machine.bus.pkrus reached) ∙ k.1.0.register;
           },
           record {
             command_is = works_still.command_is;
-            control = works_still.control ∙ sym (control_stays w.machine.bus.words action a);
-            dir = works_still.dir ∙ sym (dir_stays w.machine.bus.words action a);
+            control = works_still.control ∙ sym (control_stays w.machine.bus thread action a);
+            dir = works_still.dir ∙ sym (dir_stays w.machine.bus thread action a);
+            kernel = kernel_stays command w.machine.bus.words (acted thread 0 action a w.machine.bus) k.1.1.kernel action reached spared a by_words left;
           },
           goes.knows,
           phase_of_after command (pool_of w.machine.bus.words) w.tree mark action a (w.phases thread) k.1.3,
@@ -304,7 +371,7 @@ module _ (thread : ℕ) (command : Command) (answer : Answer) (old new : CallRun
     denotes = ground_denotes new.coffer _ _ replies.1;
     knows = knows_after thread command w Close (Pkru pkru) Done (stage.Closing reply) k.0 (
       record { holds = k.1.0.holds; register = register_set w.machine.bus thread pkru k.0.register ∙ pkru_is },
-      (new.coffer, replies.1),
+      (new.coffer, replies.1, k.1.1.kernel.alone),
       subst (λ p. MayReply w.tree p reply) (sym (told_pkru (pool_of w.machine.bus.words) pkru (w.phases thread))) replies.0,
       refl,
     );
@@ -329,16 +396,27 @@ module _ (thread : ℕ) (command : Command) (answer : Answer) (reply : Reply) (w
   own_row : is_row_of thread 1 (row_of thread command) ≡ true
   own_row = ap (λ (b : Bool). b && true) (eq-eqb thread thread refl)
 
-  unmap_goes : SessionGoes (KnowsAt thread command (stage.Ending reply)) thread Plain (Kernel (kcall.Unmap 1)) w (Kern kern.Done)
-  unmap_goes = record {
+  -- what the kernel answers to the unmap
+  abbrev ended_by : KernAnswer
+  ended_by = answer_of (callers_of w.machine.bus) w.machine.bus.words w.machine.bus.holders thread 0 (kcall.Unmap 1)
+
+  left_by : IsGrounded (words_after (callers_of w.machine.bus) w.machine.bus.words w.machine.bus.holders thread 0 (kcall.Unmap 1)) w.tree
+  left_by = subst (λ ws. IsGrounded ws w.tree) (sym (unmap_words w.machine.bus thread 0 1)) k.1.1
+
+  no_rows : kern.Done ≡ ended_by → holders_after (callers_of w.machine.bus) w.machine.bus.words w.machine.bus.holders thread 0 (kcall.Unmap 1) ≡ []
+  no_rows a =
+      unmap_held w.machine.bus thread 0 1
+      ∙ ap (λ (r : KernAnswer). root_held thread (kcall.Unmap 1) r w.machine.bus.holders) (sym a)
+      ∙ ap (without_row thread 1) k.1.0.holds
+      ∙ ap (λ (b : Bool). cond (not b) (row_of thread command ∷ []) []) own_row
+
+  unmap_goes : kern.Done ≡ ended_by → SessionGoes (KnowsAt thread command (stage.Ending reply)) thread Plain (Kernel (kcall.Unmap 1)) w (Kern kern.Done)
+  unmap_goes a = record {
     legal = (may_unmap w.tree (w.phases thread) reply k.1.2, tt, tt);
-    denotes = ground_denotes k.1.1.0 _ _ k.1.1.1;
+    denotes = ground_denotes left_by.0 _ _ left_by.1;
     knows = knows_after thread command w Plain (Kernel (kcall.Unmap 1)) (Kern kern.Done) (stage.Ending reply) k.0 (
-      record {
-        holds = ap (without_row thread 1) k.1.0.holds ∙ ap (λ (b : Bool). cond (not b) (row_of thread command ∷ []) []) own_row;
-        register = k.1.0.register;
-      },
-      k.1.1,
+      record { holds = no_rows a; register = k.1.0.register },
+      left_by,
       subst (λ p. MayReply w.tree p reply) (sym (told_unmap (pool_of w.machine.bus.words) (kcall.Unmap 1) (w.phases thread))) k.1.2,
     );
   }
@@ -346,9 +424,10 @@ module _ (thread : ℕ) (command : Command) (answer : Answer) (reply : Reply) (w
   holds : holds_itself thread 1 w.machine.bus.holders ≡ true
   holds = ap (holds_itself thread 1) k.1.0.holds ∙ ap (λ (b : Bool). b || false) own_row
 
-  unmap_answered : (answer : Answer) → Answers w.machine.bus thread (Kernel (kcall.Unmap 1)) answer → SessionGoes (KnowsAt thread command (stage.Ending reply)) thread Plain (Kernel (kcall.Unmap 1)) w answer
+  unmap_answered : (answer : Answer) → Answers w.machine.bus thread 0 (Kernel (kcall.Unmap 1)) answer → SessionGoes (KnowsAt thread command (stage.Ending reply)) thread Plain (Kernel (kcall.Unmap 1)) w answer
   unmap_answered = by_kernel (SessionGoes (KnowsAt thread command (stage.Ending reply)) thread Plain (Kernel (kcall.Unmap 1)) w) w.machine.bus thread (kcall.Unmap 1)
-      (λ r a. by_unmapped (λ r. SessionGoes (KnowsAt thread command (stage.Ending reply)) thread Plain (Kernel (kcall.Unmap 1)) w (Kern r)) w.machine.bus thread holds unmap_goes r a)
+      (λ r a. by_unmapped (λ r. r ≡ ended_by → SessionGoes (KnowsAt thread command (stage.Ending reply)) thread Plain (Kernel (kcall.Unmap 1)) w (Kern r)) w.machine.bus thread holds unmap_goes r
+      (subst (UnmapAnswers w.machine.bus thread 1) (sym a) (unmap_answers w.machine.bus thread 0 1)) a)
 
 pub unmap_gives : (thread : ℕ) (command : Command) (answer : Answer) (reply : Reply) → NextFrom thread command (stage.Closing reply) answer (next.Act Plain (Kernel (kcall.Unmap 1)) (stage.Ending reply))
 unmap_gives thread command answer reply w k = record {

@@ -1,5 +1,7 @@
 -- what the values of the register allow
 pub mod Register
+-- what a call's actions leave of the kernel's pages
+pub mod KernelLaws
 -- what the rights permit in the window
 pub mod Permits
 -- the world after an action of a thread

@@ -1,9 +1,11 @@
 -- In the window the rights permit what the call asks for in the coffer, so that it is answered by the words alone.
-use Rattle.std.proofs.Common.{◌≡◌, ◌≢◌, ℕ, ◌/◌, ◌%◌, ◌<◌, ◌≤◌, ltb, List, [], ◌∷◌, length, map, Bool, true, false, ◌&&◌, ◌||◌, cond, Contains, Option, Some, None, refl, ap, sym, ◌∙◌, ◌⊎◌, inl, inr, arith}
+use Rattle.std.proofs.Common.{◌≡◌, ◌≢◌, ℕ, ◌/◌, ◌%◌, ◌<◌, ◌≤◌, ltb, List, [], ◌∷◌, length, map, Bool, true, false, ◌&&◌, ◌||◌, cond, Contains, Option, Some, None, refl, ap, sym, subst, ◌∙◌, ◌⊎◌, inl, inr, arith}
 use Rattle.std.proofs.lemmas.Bool.{cases_eq, ne_eqb, eq-eqb, lt-ltb}
 use Rattle.pm_words.specs.Memory.{IsAddress}
-use Rattle.tr_types.specs.Machine.{Bus, IsThread, pkru_of, is_word, load_refusal, store_refusal, holds_to_write, Answers, EnlargeAnswers}
-use Rattle.tr_types.specs.KernelView.{owner_of}
+use Rattle.tr_types.specs.Machine.{Bus, IsThread, pkru_of, is_word, load_refusal, store_refusal, Answers, callers_of, acted}
+use Rattle.tr_types.specs.Kernel.{kernel_owner}
+use Rattle.tr_types.specs.KernelCalls.{words_after}
+use Rattle.tr_types.specs.RootCoffer.{holds_to_write, EnlargeAnswers, EnlargeLeaves}
 use Rattle.tr_types.specs.Rights.{process_of, are_together, is_same, key_in, is_writable, load_fault, store_fault, load_fault_by, store_fault_by, allows_writing}
 use Rattle.tr_types.specs.declared.action.Action.{Action}
 use Rattle.tr_types.specs.declared.action.Action.TheVariants.{Load, Store, Cas, Flush, Fence, Pkru, Kernel}
@@ -19,7 +21,9 @@ use Rattle.tr_types.specs.declared.kernel_call.KernAnswer.TheVariants as kern
 use Rattle.zo_ops.specs.Permitted as by_words
 use Rattle.zo_ops.specs.Reach.{IsCofferWord, IsReachable, MayStore}
 use Rattle.zo_ops.proofs.Members.{contains_cases, contains_none}
-use Rattle.tr_dispatch.specs.Sessions.{HasOpened, row_of, open_pkru, writes, right_of}
+use Rattle.tr_types.proofs.RootLemmas.{idle_owner, enlarge_answers, enlarge_leaves}
+use Rattle.tr_dispatch.specs.Sessions.{HasOpened, HasKernel, row_of, open_pkru, writes, right_of}
+use Rattle.tr_dispatch.proofs.KernelLaws.{owns_kernel}
 use Rattle.tr_dispatch.proofs.Register.{first_reads, first_writes}
 
 -- a thread that was started is together with itself
@@ -41,7 +45,11 @@ together threads thread lives =
     let at = has_process threads thread lives in
     ap (λ (p : Option ℕ). is_same p p) at.1 ∙ eq-eqb at.0 at.0 refl
 
-module _ (bus : Bus) (thread : ℕ) (command : Command) (lives : IsThread bus thread) (opened : HasOpened bus thread command) where
+module _ (bus : Bus) (thread : ℕ) (command : Command) (lives : IsThread bus thread) (opened : HasOpened bus thread command) (kernel : HasKernel bus.words) where
+  -- nothing is committed, so that the kernel reads the words as they stand
+  coffers : (addr : ℕ) → IsCofferWord bus.words addr → kernel_owner bus.words (addr / 4096) ≡ 1
+  coffers addr is = idle_owner bus.words (addr / 4096) kernel.alone.idle.present ∙ is.owned
+
   key_is : key_in bus.threads (row_of thread command ∷ []) thread 1 ≡ Some 1
   key_is = ap (λ (b : Bool). cond b (Some 1) None) (together bus.threads thread lives)
 
@@ -58,16 +66,16 @@ module _ (bus : Bus) (thread : ℕ) (command : Command) (lives : IsThread bus th
   -- a load of the coffer's word is permitted
   pub load_permitted : (addr : ℕ) → IsCofferWord bus.words addr → load_refusal bus thread addr ≡ None
   load_permitted addr is =
-      ap (λ (b : Bool). cond b (load_fault bus.threads bus.holders thread (pkru_of bus thread) (owner_of bus.words (addr / 4096))) (Some NotMapped)) (word_is addr is.word)
-      ∙ (λ i. load_fault bus.threads (opened.holds i) thread (opened.register i) (is.owned i))
+      ap (λ (b : Bool). cond b (load_fault bus.threads bus.holders thread (pkru_of bus thread) (kernel_owner bus.words (addr / 4096))) (Some NotMapped)) (word_is addr is.word)
+      ∙ (λ i. load_fault bus.threads (opened.holds i) thread (opened.register i) (coffers addr is i))
       ∙ ap (λ (k : Option ℕ). load_fault_by k (open_pkru command)) key_is
       ∙ ap (λ (b : Bool). cond b None (Some KeyDenied)) (first_reads (writes command))
 
   -- and so is a store, where the command stores
   pub store_permitted : MayStore command → (addr : ℕ) → IsCofferWord bus.words addr → store_refusal bus thread addr ≡ None
   store_permitted stores addr is =
-      ap (λ (b : Bool). cond b (store_fault bus.threads bus.holders thread (pkru_of bus thread) (owner_of bus.words (addr / 4096))) (Some NotMapped)) (word_is addr is.word)
-      ∙ (λ i. store_fault bus.threads (opened.holds i) thread (opened.register i) (is.owned i))
+      ap (λ (b : Bool). cond b (store_fault bus.threads bus.holders thread (pkru_of bus thread) (kernel_owner bus.words (addr / 4096))) (Some NotMapped)) (word_is addr is.word)
+      ∙ (λ i. store_fault bus.threads (opened.holds i) thread (opened.register i) (coffers addr is i))
       ∙ (λ i. store_fault_by (key_is i) (writable_is i) (open_pkru command))
       ∙ by command stores
     where
@@ -83,13 +91,13 @@ module _ (bus : Bus) (thread : ℕ) (command : Command) (lives : IsThread bus th
       by (Create path mode) _ = ap (λ (b : Bool). ((b && true) && true) || false) (eq-eqb thread thread refl)
       by (Stat path) none = absurd none
 
-  loaded : (addr : ℕ) → IsCofferWord bus.words addr → (answer : Answer) → Answers bus thread (Load addr) answer → by_words.Answers bus.words (Load addr) answer
+  loaded : (addr : ℕ) → IsCofferWord bus.words addr → (answer : Answer) → Answers bus thread 0 (Load addr) answer → by_words.Answers bus.words (Load addr) answer
   loaded addr is (WordIs x) a = (is.word, a.1)
   loaded addr is Done a = absurd a
   loaded addr is (Fault kind) a = let clash : None ≡ Some kind = sym (load_permitted addr is) ∙ a in cc
   loaded addr is (Kern answer) a = absurd a
 
-  stored : MayStore command → (addr x : ℕ) → IsCofferWord bus.words addr → (answer : Answer) → Answers bus thread (Store addr x) answer → by_words.Answers bus.words (Store addr x) answer
+  stored : MayStore command → (addr x : ℕ) → IsCofferWord bus.words addr → (answer : Answer) → Answers bus thread 0 (Store addr x) answer → by_words.Answers bus.words (Store addr x) answer
   stored stores addr x is (WordIs y) a = absurd a
   stored stores addr x is Done a = is.word
   stored stores addr x is (Fault kind) a = let clash : None ≡ Some kind = sym (store_permitted stores addr is) ∙ a in cc
@@ -127,13 +135,13 @@ module _ (bus : Bus) (thread : ℕ) (command : Command) (lives : IsThread bus th
     enlarged kern.BadCount a = absurd (bad_count a.1)
     enlarged kern.NoMemory a = absurd a.3
 
-    asked : (answer : Answer) → Answers bus thread (Kernel (kcall.Enlarge id count)) answer → by_words.Answers bus.words (Kernel (kcall.Enlarge id count)) answer
+    asked : (answer : Answer) → Answers bus thread 0 (Kernel (kcall.Enlarge id count)) answer → by_words.Answers bus.words (Kernel (kcall.Enlarge id count)) answer
     asked (WordIs x) a = absurd a
     asked Done a = absurd a
     asked (Fault kind) a = absurd a
-    asked (Kern answer) a = enlarged answer a
+    asked (Kern answer) a = enlarged answer (subst (EnlargeAnswers bus thread id count) (sym a) (enlarge_answers bus thread 0 id count kernel.alone.idle.present))
 
-  called : (call : Kcall) → IsReachable command bus.words (Kernel call) → (answer : Answer) → Answers bus thread (Kernel call) answer → by_words.Answers bus.words (Kernel call) answer
+  called : (call : Kcall) → IsReachable command bus.words (Kernel call) → (answer : Answer) → Answers bus thread 0 (Kernel call) answer → by_words.Answers bus.words (Kernel call) answer
   called (kcall.Find path also) reached = absurd reached.1
   called (kcall.Map path right exclusive) reached = absurd reached.1
   called (kcall.Unmap id) reached = absurd reached.1
@@ -146,8 +154,8 @@ module _ (bus : Bus) (thread : ℕ) (command : Command) (lives : IsThread bus th
   called (kcall.Mode id mode) reached = absurd reached.1
   called (kcall.Recover id ready) reached = absurd reached.1
 
-  -- What the machine answers in the window to an action in the coffer is what a permitted action is answered.
-  pub permitted : (action : Action) → IsReachable command bus.words action → (answer : Answer) → Answers bus thread action answer → by_words.Answers bus.words action answer
+  -- What the machine answers in the window to an action in the coffer is what a permitted action is answered ..
+  pub permitted : (action : Action) → IsReachable command bus.words action → (answer : Answer) → Answers bus thread 0 action answer → by_words.Answers bus.words action answer
   permitted (Load addr) reached = loaded addr reached
   permitted (Store addr x) reached = stored reached.0 addr x reached.1
   permitted (Cas addr old new) reached = absurd reached
@@ -155,3 +163,35 @@ module _ (bus : Bus) (thread : ℕ) (command : Command) (lives : IsThread bus th
   permitted Fence reached = absurd reached
   permitted (Pkru pkru) reached = absurd reached
   permitted (Kernel call) reached = called call reached
+
+  called_leaves : (call : Kcall) → IsReachable command bus.words (Kernel call) → (answer : KernAnswer) → Answers bus thread 0 (Kernel call) (Kern answer)
+      → by_words.Leaves (Kernel call) (Kern answer) bus.words (words_after (callers_of bus) bus.words bus.holders thread 0 call)
+  called_leaves (kcall.Find path also) reached = absurd reached.1
+  called_leaves (kcall.Map path right exclusive) reached = absurd reached.1
+  called_leaves (kcall.Unmap id) reached = absurd reached.1
+  called_leaves (kcall.New parent path kind mode link guard) reached = absurd reached.1
+  called_leaves (kcall.Delete id parent link guard) reached = absurd reached.1
+  called_leaves (kcall.Enlarge id count) reached = λ answer a.
+      subst (λ (r : KernAnswer). EnlargeLeaves id bus.words r (words_after (callers_of bus) bus.words bus.holders thread 0 (kcall.Enlarge id count))) (sym a)
+      (enlarge_leaves bus thread 0 id count (owns_kernel bus.words kernel))
+  called_leaves (kcall.Shrink id pages guard) reached = absurd reached.1
+  called_leaves (kcall.Split id path pages mode link guard) reached = absurd reached.1
+  called_leaves (kcall.Merge child parent pages link guard) reached = absurd reached.1
+  called_leaves (kcall.Mode id mode) reached = absurd reached.1
+  called_leaves (kcall.Recover id ready) reached = absurd reached.1
+
+  -- .. and what it leaves of the memory is what that one leaves
+  pub leaves : (action : Action) → IsReachable command bus.words action → (answer : Answer) → Answers bus thread 0 action answer → by_words.Leaves action answer bus.words (acted thread 0 action answer bus)
+  leaves (Load addr) reached answer a = refl
+  leaves (Store addr x) reached (WordIs y) a = refl
+  leaves (Store addr x) reached Done a = refl
+  leaves (Store addr x) reached (Fault kind) a = refl
+  leaves (Store addr x) reached (Kern answer) a = refl
+  leaves (Cas addr old new) reached answer a = absurd reached
+  leaves (Flush addr) reached answer a = absurd reached
+  leaves Fence reached answer a = absurd reached
+  leaves (Pkru pkru) reached answer a = absurd reached
+  leaves (Kernel call) reached (WordIs y) a = absurd a
+  leaves (Kernel call) reached Done a = absurd a
+  leaves (Kernel call) reached (Fault kind) a = absurd a
+  leaves (Kernel call) reached (Kern answer) a = called_leaves call reached answer a

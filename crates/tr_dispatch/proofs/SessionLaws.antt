@@ -6,8 +6,9 @@ use Rattle.std.proofs.lemmas.List.{map-append}
 use Rattle.std.proofs.lemmas.List.Elements.{Contains-append_left}
 use Rattle.pm_words.specs.Word.{Word}
 use Rattle.zo_layout.specs.Layout.{bucket_head, bucket_of}
-use Rattle.tr_types.specs.Machine.{Bus, IsThread, IsStored, is_word, store_refusal, pkru_of, root_mapped, with_process, with_thread}
-use Rattle.tr_types.specs.KernelView.{owner_of}
+use Rattle.tr_types.specs.Machine.{Bus, IsThread, IsStored, is_word, store_refusal, pkru_of, with_process, with_thread}
+use Rattle.tr_types.specs.Kernel.{kernel_owner}
+use Rattle.tr_types.specs.RootCoffer.{IsRootAlone, root_mapped}
 use Rattle.tr_types.specs.Rights.{closed_pkru, only_pkru, may_read, may_write, holds_beside, key_in, store_fault_by, store_fault}
 use Rattle.tr_types.specs.Tree.{Member}
 use Rattle.tr_types.specs.Denotes.{Denotes, dir_of}
@@ -21,6 +22,7 @@ use Rattle.tr_types.specs.declared.action.FaultKind.TheVariants.{NotMapped, NotW
 use Rattle.tr_types.specs.declared.command.Command.{Command}
 use Rattle.tr_types.specs.declared.command.Command.TheVariants.{Create, Stat}
 use Rattle.tr_types.specs.declared.kernel_call.Holder.{Holder}
+use Rattle.tr_types.specs.declared.permission.Cred.{Cred}
 use Rattle.tr_types.specs.declared.kernel_call.KernAnswer.{KernAnswer}
 use Rattle.tr_types.specs.declared.kernel_call.KernAnswer.TheVariants as kern
 use Rattle.zo_ops.specs.declared.call.Coffer.{Coffer}
@@ -120,6 +122,16 @@ module _ (thread : ℕ) (command : Command) (answer : Answer) (bus : Bus) (tree 
   stage_denotes (stage.Ending reply) valid k = ground_denotes k.1.0 _ _ k.1.1
   stage_denotes stage.Over valid k = absurd k
 
+  -- the root coffer is the only one
+  stage_alone : (s : Stage) → SessionStageKnows thread command s answer bus tree phase consulted → IsRootAlone bus.words
+  stage_alone stage.Begin k = k.1.2
+  stage_alone stage.Finding k = k.1.2
+  stage_alone stage.Mapping k = k.1.2
+  stage_alone (stage.Working call) k = k.1.kernel.alone
+  stage_alone (stage.Closing reply) k = k.1.2
+  stage_alone (stage.Ending reply) k = k.1.2
+  stage_alone stage.Over k = absurd k
+
   -- the call isn't idle
   not_idle : (s : Stage) → SessionStageKnows thread command s answer bus tree phase consulted → phase ≢ Idle
   not_idle stage.Begin k idle = let clash : Idle ≡ Runs command false false NotYet = sym idle ∙ k.2 in cc
@@ -176,6 +188,10 @@ reads_only command (Committed reply) of reading = absurd reading
 -- The words denote the tree all along a session.
 pub knows_denotes : (s : Session) (a : Answer) (w : World) → SessionKnows s a w → Denotes w.machine.bus.words w.tree
 knows_denotes s a w k = stage_denotes s.thread s.command.now a w.machine.bus w.tree (w.phases s.thread) (w.consulted s.thread) s.stage k.0.valid k.1
+
+-- And the root coffer is the only one all along.
+pub knows_alone : (s : Session) (a : Answer) (w : World) → SessionKnows s a w → IsRootAlone w.machine.bus.words
+knows_alone s a w k = stage_alone s.thread s.command.now a w.machine.bus w.tree (w.phases s.thread) (w.consulted s.thread) s.stage k.1
 
 -- The windows are right where nobody holds a coffer and all registers are closed.
 pub bare_windowed : (w : World) → w.machine.bus.holders ≡ [] → ((u : ℕ) → pkru_of w.machine.bus u ≡ closed_pkru) → IsWindowed w
@@ -302,9 +318,9 @@ knows_stays s a w after bus tree phase consulted = knows_seen s a w after (recor
   consulted = consulted;
 })
 
-pub knows_with_process : (s : Session) (a : Answer) (w after : World) (process : ℕ) → after.machine.bus ≡ with_process process w.machine.bus → after.tree ≡ w.tree → after.phases s.thread ≡ w.phases s.thread → after.consulted s.thread ≡ w.consulted s.thread
+pub knows_with_process : (s : Session) (a : Answer) (w after : World) (process : ℕ) (cred : Cred) → after.machine.bus ≡ with_process process cred w.machine.bus → after.tree ≡ w.tree → after.phases s.thread ≡ w.phases s.thread → after.consulted s.thread ≡ w.consulted s.thread
     → SessionKnows s a w → SessionKnows s a after
-knows_with_process s a w after process bus tree phase consulted = knows_seen s a w after (record {
+knows_with_process s a w after process cred bus tree phase consulted = knows_seen s a w after (record {
   words = ap (λ (b : Bus). b.words) bus;
   holders = ap (λ (b : Bus). b.holders) bus;
   register = ap (λ (b : Bus). pkru_of b s.thread) bus;
@@ -380,9 +396,9 @@ module _ (bus : Bus) (thread addr : ℕ) (closed : pkru_of bus thread ≡ closed
   never_permitted : store_refusal bus thread addr ≢ None
   never_permitted = by (is_word bus.words addr)
     where
-      by : (b : Bool) → cond b (store_fault bus.threads bus.holders thread (pkru_of bus thread) (owner_of bus.words (addr / 4096))) (Some NotMapped) ≢ None
-      by true none = refused_by _ _ (key_of_row (owner_of bus.words (addr / 4096)))
-          (ap (λ (p : ℕ). store_fault bus.threads bus.holders thread p (owner_of bus.words (addr / 4096))) (sym closed) ∙ none)
+      by : (b : Bool) → cond b (store_fault bus.threads bus.holders thread (pkru_of bus thread) (kernel_owner bus.words (addr / 4096))) (Some NotMapped) ≢ None
+      by true none = refused_by _ _ (key_of_row (kernel_owner bus.words (addr / 4096)))
+          (ap (λ (p : ℕ). store_fault bus.threads bus.holders thread p (kernel_owner bus.words (addr / 4096))) (sym closed) ∙ none)
       by false none = is_some NotMapped none
 
 pub stray_refused : (bus : Bus) (thread addr : ℕ) (answer : Answer) → pkru_of bus thread ≡ closed_pkru → ((row : Holder) → Contains bus.holders row → (1 ≤ row.key) × (row.key ≤ 15))

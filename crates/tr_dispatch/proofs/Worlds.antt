@@ -1,13 +1,11 @@
 -- The world after an action of a thread, as the thread sees it.
-use Rattle.std.proofs.Common.{◌≡◌, ℕ, ◌<◌, ◌/◌, List, [], ◌∷◌, length, slice_index_or, slice_set, Bool, cond, Option, refl, ap, sym, subst, ◌∙◌, get_or-set_same, fold, ◌≤◌}
+use Rattle.std.proofs.Common.{◌≡◌, ℕ, ◌<◌, ◌≤◌, List, length, slice_index_or, slice_set, Bool, cond, Option, refl, ap, sym, subst, get_or-set_same}
 use Rattle.std.proofs.lemmas.Bool.{eq-eqb}
 use Rattle.std.proofs.lemmas.List.{length-set}
 use Rattle.pm_words.specs.Word.{Word}
-use Rattle.pm_words.specs.Memory.{store_at}
-use Rattle.pm_words.proofs.WordLemmas.{length_store_at}
-use Rattle.zo_layout.specs.Layout.{owner_word, page_at, root_control, root_page}
-use Rattle.tr_types.specs.Machine.{Bus, acted, called, held, mapped, registered, bus_after, IsBuilt}
-use Rattle.tr_types.specs.KernelView.{pages_of}
+use Rattle.zo_layout.specs.Layout.{page_at, root_control, root_page}
+use Rattle.tr_types.specs.Machine.{Bus, acted, held, callers_of, registered, bus_after, IsBuilt}
+use Rattle.tr_types.specs.KernelCalls.{holders_after}
 use Rattle.tr_types.specs.Denotes.{control_of, dir_of}
 use Rattle.tr_types.specs.Rights.{closed_pkru}
 use Rattle.tr_types.specs.Tree.{Member}
@@ -21,15 +19,15 @@ use Rattle.tr_types.specs.declared.command.Command.{Command}
 use Rattle.tr_types.specs.declared.entry.Entry.TheVariants as entry
 use Rattle.tr_types.specs.declared.entry.Mark.{Mark}
 use Rattle.tr_types.specs.declared.entry.Mark.TheVariants.{Plain, Open, Close, Take, Note, Check, Point, Commit}
-use Rattle.tr_types.specs.declared.kernel_call.Holder.{Holder}
 use Rattle.tr_types.specs.declared.kernel_call.Kcall.{Kcall}
 use Rattle.tr_types.specs.declared.kernel_call.Kcall.TheVariants as kcall
-use Rattle.tr_types.specs.declared.kernel_call.KernAnswer.{KernAnswer}
 use Rattle.tr_types.specs.declared.kernel_call.KernAnswer.TheVariants as kern
+use Rattle.tr_types.proofs.MachineLemmas.{pages_acted}
+use Rattle.tr_types.proofs.RootLemmas.{enlarge_held}
 use Rattle.zo_ops.specs.Calls.{IsCallAction}
 use Rattle.zo_ops.specs.Reach.{IsReachable}
 use Rattle.tr_dispatch.specs.declared.session.Stage.{Stage}
-use Rattle.tr_dispatch.specs.Sessions.{Sits, SessionStageKnows, KnowsAt, IsPhaseOf}
+use Rattle.tr_dispatch.specs.Sessions.{Sits, SessionStageKnows, KnowsAt, IsPhaseOf, HasKernel}
 
 -- the thread's own phase and coffer
 put_same : (phases : ℕ → Phase) (thread : ℕ) (phase : Phase) → put phases thread phase thread ≡ phase
@@ -65,15 +63,15 @@ module _ (thread : ℕ) (command : Command) (w : World) (mark : Mark) (action : 
 
   -- what is known of the bus, the tree, the phase and the consulted coffer after an action is known after its entry
   pub knows_after : (stage : Stage) → Sits thread command w
-      → SessionStageKnows thread command stage answer (bus_after thread action answer w.machine.bus) (changed mark answer w.tree (w.phases thread))
+      → SessionStageKnows thread command stage answer (bus_after thread 0 action answer w.machine.bus) (changed mark answer w.tree (w.phases thread))
       (phase_after (pool_of w.machine.bus.words) w.tree mark action answer (w.phases thread)) (consulted_after w.machine.bus.words (w.phases thread) action answer (w.consulted thread))
       → KnowsAt thread command stage answer (stepped w (entry.Act thread 0 mark action answer))
   knows_after stage sits known = (
     sits_after sits,
-    subst (λ p. SessionStageKnows thread command stage answer (bus_after thread action answer w.machine.bus) (changed mark answer w.tree (w.phases thread)) p
+    subst (λ p. SessionStageKnows thread command stage answer (bus_after thread 0 action answer w.machine.bus) (changed mark answer w.tree (w.phases thread)) p
         (put_consulted w.consulted thread (consulted_after w.machine.bus.words (w.phases thread) action answer (w.consulted thread)) thread))
         (sym (put_same w.phases thread _))
-        (subst (λ c. SessionStageKnows thread command stage answer (bus_after thread action answer w.machine.bus) (changed mark answer w.tree (w.phases thread))
+        (subst (λ c. SessionStageKnows thread command stage answer (bus_after thread 0 action answer w.machine.bus) (changed mark answer w.tree (w.phases thread))
         (phase_after (pool_of w.machine.bus.words) w.tree mark action answer (w.phases thread)) c)
         (sym (consulted_same w.consulted thread _)) known),
   )
@@ -113,95 +111,42 @@ told_unmap pool call Idle = refl
 told_unmap pool call (Runs command loaded drained asked) = refl
 told_unmap pool call (Committed reply) = refl
 
--- The memory keeps its size.
-length_stores : (count coffer : ℕ) (pages : List ℕ) (words : List Word) → length (fold (λ now page. store_at (owner_word count page) coffer now) words pages) ≡ length words
-length_stores count coffer [] words = refl
-length_stores count coffer (page ∷ pages) words = length_stores count coffer pages (store_at (owner_word count page) coffer words) ∙ length_store_at (owner_word count page) coffer words
+-- The control page and the directory stay where they are.
+module _ (bus : Bus) (thread : ℕ) (action : Action) (answer : Answer) where
+  pub control_stays : control_of (acted thread 0 action answer bus) ≡ control_of bus.words
+  control_stays = ap (λ (n : ℕ). page_at (root_control n)) (pages_acted thread 0 action answer bus)
 
-module _ (words : List Word) where
-  length_called : (call : Kcall) (answer : KernAnswer) → length (called call answer words) ≡ length words
-  length_called (kcall.Find path also) answer = refl
-  length_called (kcall.Map path right exclusive) answer = refl
-  length_called (kcall.Unmap id) answer = refl
-  length_called (kcall.New parent path kind mode link guard) answer = refl
-  length_called (kcall.Delete id parent link guard) answer = refl
-  length_called (kcall.Enlarge id count) kern.Done = refl
-  length_called (kcall.Enlarge id count) kern.Same = refl
-  length_called (kcall.Enlarge id count) (kern.Found one other) = refl
-  length_called (kcall.Enlarge id count) (kern.Mapped m) = refl
-  length_called (kcall.Enlarge id count) (kern.Made made) = refl
-  length_called (kcall.Enlarge id count) (kern.Pages pages) = length_stores (pages_of words) id pages words
-  length_called (kcall.Enlarge id count) kern.NotHeld = refl
-  length_called (kcall.Enlarge id count) kern.BadPath = refl
-  length_called (kcall.Enlarge id count) (kern.Denied right other len) = refl
-  length_called (kcall.Enlarge id count) (kern.Quarantined other len) = refl
-  length_called (kcall.Enlarge id count) (kern.InUse user other len) = refl
-  length_called (kcall.Enlarge id count) (kern.NoKey other len) = refl
-  length_called (kcall.Enlarge id count) (kern.NotYours page) = refl
-  length_called (kcall.Enlarge id count) (kern.GuardFailed addr word) = refl
-  length_called (kcall.Enlarge id count) (kern.LinkDiffers addr word) = refl
-  length_called (kcall.Enlarge id count) kern.Taken = refl
-  length_called (kcall.Enlarge id count) kern.TooMany = refl
-  length_called (kcall.Enlarge id count) (kern.NoPages asked free) = refl
-  length_called (kcall.Enlarge id count) kern.NoCoffer = refl
-  length_called (kcall.Enlarge id count) kern.NotEmptyList = refl
-  length_called (kcall.Enlarge id count) kern.BadCount = refl
-  length_called (kcall.Enlarge id count) kern.NoMemory = refl
-  length_called (kcall.Shrink id pages guard) answer = refl
-  length_called (kcall.Split id path pages mode link guard) answer = refl
-  length_called (kcall.Merge child parent pages link guard) answer = refl
-  length_called (kcall.Mode id mode) answer = refl
-  length_called (kcall.Recover id ready) answer = refl
-
-  pub length_acted : (action : Action) (answer : Answer) → length (acted action answer words) ≡ length words
-  length_acted (Load addr) answer = refl
-  length_acted (Store addr word) (WordIs x) = refl
-  length_acted (Store addr word) Done = length_store_at addr word words
-  length_acted (Store addr word) (Fault kind) = refl
-  length_acted (Store addr word) (Kern answer) = refl
-  length_acted (Cas addr old new) answer = refl
-  length_acted (Flush addr) answer = refl
-  length_acted Fence answer = refl
-  length_acted (Pkru pkru) answer = refl
-  length_acted (Kernel call) (WordIs x) = refl
-  length_acted (Kernel call) Done = refl
-  length_acted (Kernel call) (Fault kind) = refl
-  length_acted (Kernel call) (Kern answer) = length_called call answer
-
-  -- the control page and the directory stay where they are
-  pub control_stays : (action : Action) (answer : Answer) → control_of (acted action answer words) ≡ control_of words
-  control_stays action answer = ap (λ (n : ℕ). page_at (root_control (n / 512))) (length_acted action answer)
-
-  pub dir_stays : (action : Action) (answer : Answer) → dir_of (acted action answer words) ≡ dir_of words
-  dir_stays action answer = ap (λ (n : ℕ). page_at (root_page (n / 512))) (length_acted action answer)
+  pub dir_stays : dir_of (acted thread 0 action answer bus) ≡ dir_of bus.words
+  dir_stays = ap (λ (n : ℕ). page_at (root_page n)) (pages_acted thread 0 action answer bus)
 
 -- What an action of a call in the coffer leaves: the holders, the registers, and the consulted coffer.
+module _ (command : Command) (bus : Bus) (kernel : HasKernel bus.words) (thread : ℕ) where
+  call_keeps : (call : Kcall) → IsReachable command bus.words (Kernel call) → holders_after (callers_of bus) bus.words bus.holders thread 0 call ≡ bus.holders
+  call_keeps (kcall.Find path also) reached = absurd reached.1
+  call_keeps (kcall.Map path right exclusive) reached = absurd reached.1
+  call_keeps (kcall.Unmap id) reached = absurd reached.1
+  call_keeps (kcall.New parent path kind mode link guard) reached = absurd reached.1
+  call_keeps (kcall.Delete id parent link guard) reached = absurd reached.1
+  call_keeps (kcall.Enlarge id count) reached = enlarge_held bus thread 0 id count kernel.alone.idle.present
+  call_keeps (kcall.Shrink id pages guard) reached = absurd reached.1
+  call_keeps (kcall.Split id path pages mode link guard) reached = absurd reached.1
+  call_keeps (kcall.Merge child parent pages link guard) reached = absurd reached.1
+  call_keeps (kcall.Mode id mode) reached = absurd reached.1
+  call_keeps (kcall.Recover id ready) reached = absurd reached.1
+
+  pub holders_stay : (action : Action) (answer : Answer) → IsReachable command bus.words action → held thread 0 action answer bus ≡ bus.holders
+  holders_stay (Load addr) answer reached = refl
+  holders_stay (Store addr word) answer reached = refl
+  holders_stay (Cas addr old new) answer reached = absurd reached
+  holders_stay (Flush addr) answer reached = absurd reached
+  holders_stay Fence answer reached = absurd reached
+  holders_stay (Pkru pkru) answer reached = absurd reached
+  holders_stay (Kernel call) (WordIs x) reached = refl
+  holders_stay (Kernel call) Done reached = refl
+  holders_stay (Kernel call) (Fault kind) reached = refl
+  holders_stay (Kernel call) (Kern answer) reached = call_keeps call reached
+
 module _ (command : Command) (words : List Word) where
-  call_keeps : (thread : ℕ) (call : Kcall) (answer : KernAnswer) (holders : List Holder) → IsReachable command words (Kernel call) → mapped thread call answer holders ≡ holders
-  call_keeps thread (kcall.Find path also) answer holders reached = absurd reached.1
-  call_keeps thread (kcall.Map path right exclusive) answer holders reached = absurd reached.1
-  call_keeps thread (kcall.Unmap id) answer holders reached = absurd reached.1
-  call_keeps thread (kcall.New parent path kind mode link guard) answer holders reached = absurd reached.1
-  call_keeps thread (kcall.Delete id parent link guard) answer holders reached = absurd reached.1
-  call_keeps thread (kcall.Enlarge id count) answer holders reached = refl
-  call_keeps thread (kcall.Shrink id pages guard) answer holders reached = absurd reached.1
-  call_keeps thread (kcall.Split id path pages mode link guard) answer holders reached = absurd reached.1
-  call_keeps thread (kcall.Merge child parent pages link guard) answer holders reached = absurd reached.1
-  call_keeps thread (kcall.Mode id mode) answer holders reached = absurd reached.1
-  call_keeps thread (kcall.Recover id ready) answer holders reached = absurd reached.1
-
-  pub holders_stay : (thread : ℕ) (action : Action) (answer : Answer) (holders : List Holder) → IsReachable command words action → held thread action answer holders ≡ holders
-  holders_stay thread (Load addr) answer holders reached = refl
-  holders_stay thread (Store addr word) answer holders reached = refl
-  holders_stay thread (Cas addr old new) answer holders reached = absurd reached
-  holders_stay thread (Flush addr) answer holders reached = absurd reached
-  holders_stay thread Fence answer holders reached = absurd reached
-  holders_stay thread (Pkru pkru) answer holders reached = absurd reached
-  holders_stay thread (Kernel call) (WordIs x) holders reached = refl
-  holders_stay thread (Kernel call) Done holders reached = refl
-  holders_stay thread (Kernel call) (Fault kind) holders reached = refl
-  holders_stay thread (Kernel call) (Kern answer) holders reached = call_keeps thread call answer holders reached
-
   pub registers_stay : (thread : ℕ) (action : Action) (answer : Answer) (pkrus : List ℕ) → IsReachable command words action → registered thread action answer pkrus ≡ pkrus
   registers_stay thread (Load addr) answer pkrus reached = refl
   registers_stay thread (Store addr word) answer pkrus reached = refl

@@ -1,9 +1,13 @@
 -- The session of one call: the thread finds and maps the coffer that its command consults, opens the coffer's key alone,
 -- lets the call work, closes its register, unmaps the coffer, and replies. What it knows between two of its actions,
 -- stage by stage, and what it gives.
-use Rattle.std.specs.Prelude.{◌≡◌, ℕ, ◌<◌, List, [], ◌∷◌, length, Option, Some, None, Bool, true, false}
+use Rattle.std.specs.Prelude.{◌≡◌, ◌≢◌, ℕ, ◌<◌, List, [], ◌∷◌, length, Option, Some, None, Bool, true, false}
 use Rattle.pm_words.specs.Word.{Word}
-use Rattle.tr_types.specs.Machine.{Bus, IsThread, pkru_of, Answers, IsBuilt, found_at, root_mapped}
+use Rattle.pm_words.specs.Memory.{HasPages}
+use Rattle.zo_layout.specs.Layout.{kernel_pages}
+use Rattle.tr_types.specs.KernelView.{pages_of, owner_of}
+use Rattle.tr_types.specs.RootCoffer.{IsRootAlone, found_at, root_mapped}
+use Rattle.tr_types.specs.Machine.{Bus, IsThread, pkru_of, Answers, IsBuilt}
 use Rattle.tr_types.specs.Rights.{closed_pkru, only_pkru}
 use Rattle.tr_types.specs.Marks.{mark_of}
 use Rattle.tr_types.specs.Tree.{Member}
@@ -33,9 +37,9 @@ use Rattle.tr_dispatch.specs.declared.session.Stage.TheVariants as stage
 use Rattle.tr_dispatch.specs.declared.session.Next.{Next}
 use Rattle.tr_dispatch.specs.declared.session.Next.TheVariants as next
 
--- the words lie as a call finds them, and the tree is theirs
+-- the words lie as a call finds them, the tree is theirs, and the root coffer is the only one
 abbrev pub IsGrounded : List Word → List Member → Type 0
-IsGrounded words tree = (coffer : Coffer) × Ground coffer words tree
+IsGrounded words tree = (coffer : Coffer) × Ground coffer words tree × IsRootAlone words
 
 -- the command stores
 abbrev pub writes : Command → Bool
@@ -71,11 +75,19 @@ HasMapped bus thread command = Stands bus thread (row_of thread command ∷ []) 
 abbrev pub HasOpened : Bus → ℕ → Command → Type 0
 HasOpened bus thread command = Stands bus thread (row_of thread command ∷ []) (open_pkru command)
 
+-- What stands of the kernel's pages at each action of a call: the root coffer is the only one, and each of them is owned,
+-- so that no coffer is given one.
+pub record HasKernel (words : List Word) : Type 0 where
+  pub alone : IsRootAlone words
+  pub size : HasPages (length words)
+  pub owned : (page : ℕ) → page < kernel_pages (pages_of words) → owner_of words page ≢ 0
+
 -- a call that works for the command in the root coffer of these words
 pub record WorksFor (command : Command) (call : CallRun) (words : List Word) : Type 0 where
   pub command_is : call.command.now ≡ command
   pub control : call.coffer.control.at ≡ control_of words
   pub dir : call.coffer.dir.at ≡ dir_of words
+  pub kernel : HasKernel words
 
 -- the phase is one of a call with this command
 abbrev pub IsPhaseOf : Command → Phase → Type 0
@@ -127,7 +139,8 @@ pub record BeginsAt (thread : ℕ) (command : Command) (w : World) : Type 0 wher
   pub grounded : IsGrounded w.machine.bus.words w.tree
   pub phase_is : w.phases thread ≡ Runs command false false NotYet
 
--- an action that was answered so: it is legal, the words denote the tree afterwards, and then this is known
+-- an action that was answered so, at tick 0 as all actions of calls: it is legal, the words denote the tree afterwards, and
+-- then this is known
 pub record SessionGoes (Known : Answer → World → Type 0) (thread : ℕ) (mark : Mark) (action : Action) (w : World) (answer : Answer) : Type 0 where
   pub legal : IsLegal w (entry.Act thread 0 mark action answer)
   pub denotes : Denotes (stepped w (entry.Act thread 0 mark action answer)).machine.bus.words (stepped w (entry.Act thread 0 mark action answer)).tree
@@ -139,7 +152,7 @@ pub record SessionActs (Known : Answer → World → Type 0) (thread : ℕ) (com
   pub marked : mark ≡ mark_of (dir_of w.machine.bus.words) command action
   pub built : IsBuilt action
   pub shut : (answer : Answer) → FindsShut w (entry.Act thread 0 mark action answer)
-  pub goes : (answer : Answer) → Answers w.machine.bus thread action answer → SessionGoes Known thread mark action w answer
+  pub goes : (answer : Answer) → Answers w.machine.bus thread 0 action answer → SessionGoes Known thread mark action w answer
 
 -- a reply that a session gives: it is legal, and nothing is left open or mapped
 pub record SessionEnds (thread : ℕ) (reply : Reply) (w : World) : Type 0 where

@@ -1,8 +1,9 @@
 -- What holds while turns of a call are made.
-use Rattle.std.proofs.Common.{◌≡◌, ◌≢◌, ℕ, List, ◌∷◌, Bool, true, false, cond, ne_eqb, Option, Some, None, Ok, refl, sym, ap, ◌∙◌}
+use Rattle.std.proofs.Common.{◌≡◌, ◌≢◌, ℕ, List, ◌∷◌, map, Bool, true, false, cond, ne_eqb, Option, Some, None, Ok, refl, sym, ap, ◌∙◌}
 use Rattle.tr_types.specs.Machine.{Machine}
 use Rattle.tr_types.specs.declared.entry.Entry.{Entry}
 use Rattle.tr_types.specs.declared.entry.Mark.TheVariants as mark
+use Rattle.tr_types.specs.declared.permission.Cred.{Cred}
 use Rattle.bus_machine.specs.View.{MachineView}
 use Rattle.tr_script.specs.Grammar.{Declared, declared, calling_behind}
 use Rattle.tr_script.specs.declared.script.Line.{Line}
@@ -52,7 +53,7 @@ module _ (lines : List Line) (m : MachineView) (old trace new : List Entry) (cal
   like_after : (d next : Declared) → d.begun ≡ true → next.processes ≡ d.processes → next.threads ≡ d.threads → next.begun ≡ true → (place_after lines new).dir ≡ P.dir → ((r : Running) → (place_after lines new).running ≡ Some r → next.calling ≡ Some r.thread)
       → IsLike lines (world_after lines old).machine P d → IsLike lines (world_after lines new).machine (place_after lines new) next
   like_after d next begun processes threads has dir calling k = record {
-    processes = who.processes ∙ runs.who.processes ∙ k.processes ∙ sym processes;
+    processes = ap (λ (l : List (ℕ × Cred)). map (λ p. p.0) l) (who.processes ∙ runs.who.processes) ∙ k.processes ∙ sym processes;
     threads = who.threads ∙ runs.who.threads ∙ k.threads ∙ sym threads;
     begun = who.begun ∙ sym has;
     untouched = λ b. clash (sym who.begun ∙ b);

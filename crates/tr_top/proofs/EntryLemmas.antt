@@ -66,14 +66,14 @@ pub still_adds : (lines : List Line) (m : MachineView) (trace : List Entry) (e :
 still_adds lines m trace e tied follows comes sound still = record { follows = follows; comes = comes; sound = sound; bus = tied.bus ∙ sym still; works = tied.works }
 
 -- An action that the machine has answered.
-pub act_answers : (lines : List Line) (m : MachineView) (trace : List Entry) (thread : ℕ) (action : Action) (answer : Answer) → IsTied lines m trace → Answers m.bus thread action answer → Answers (world_after lines trace).machine.bus thread action answer
-act_answers lines m trace thread action answer tied is = subst (λ (b : Bus). Answers b thread action answer) tied.bus is
+pub act_answers : (lines : List Line) (m : MachineView) (trace : List Entry) (thread : ℕ) (action : Action) (answer : Answer) → IsTied lines m trace → Answers m.bus thread 0 action answer → Answers (world_after lines trace).machine.bus thread 0 action answer
+act_answers lines m trace thread action answer tied is = subst (λ (b : Bus). Answers b thread 0 action answer) tied.bus is
 
-pub act_adds : (lines : List Line) (m next : MachineView) (trace : List Entry) (thread : ℕ) (mark : Mark) (action : Action) (answer : Answer) → IsTied lines m trace → MayFollow (place_after lines trace) (entry.Act thread 0 mark action answer) → IsSound (world_after lines trace) (entry.Act thread 0 mark action answer) → IsThread m.bus thread → Answers m.bus thread action answer → next ≡ with_bus (bus_after thread action answer m.bus) → Adds lines next trace (entry.Act thread 0 mark action answer)
+pub act_adds : (lines : List Line) (m next : MachineView) (trace : List Entry) (thread : ℕ) (mark : Mark) (action : Action) (answer : Answer) → IsTied lines m trace → MayFollow (place_after lines trace) (entry.Act thread 0 mark action answer) → IsSound (world_after lines trace) (entry.Act thread 0 mark action answer) → IsThread m.bus thread → Answers m.bus thread 0 action answer → next ≡ with_bus (bus_after thread 0 action answer m.bus) → Adds lines next trace (entry.Act thread 0 mark action answer)
 act_adds lines m next trace thread mark action answer tied follows sound lives answers is = record {
   follows = follows;
   comes = (subst (λ (b : Bus). IsThread b thread) tied.bus lives, omega arith, act_answers lines m trace thread action answer tied answers);
   sound = sound;
-  bus = ap (λ (v : MachineView). v.bus) is ∙ ap (λ (b : Bus). bus_after thread action answer b) tied.bus;
+  bus = ap (λ (v : MachineView). v.bus) is ∙ ap (λ (b : Bus). bus_after thread 0 action answer b) tied.bus;
   works = ap (λ (v : MachineView). v.failed) is;
 }

@@ -1,5 +1,6 @@
 -- What each line of a script leaves: where the script stands, and what has been started.
 use Rattle.std.proofs.Common.{◌≡◌, ℕ, List, [], ◌∷◌, ◌++◌, Bool, true, false, cond, Option, Some, None, refl, sym, ap, subst, ◌∙◌, eq-eqb}
+use Rattle.std.proofs.lemmas.List.{map-append}
 use Rattle.zo_layout.specs.Layout.{page_at, root_page}
 use Rattle.tr_types.specs.World.{World, stepped}
 use Rattle.tr_types.specs.declared.action.Answer.TheVariants.{Fault}
@@ -79,7 +80,7 @@ module _ (lines : List Line) (w : World) (p : Place) where
 
   pub like_process : (process : ℕ) (cred : Cred) (d : Declared) → MayStand d (Process process cred) → IsLike lines w.machine p d → IsLike lines (stepped w (entry.Process process cred)).machine (followed p (entry.Process process cred)) (declared d (Process process cred))
   like_process process cred d stands k = record {
-    processes = ap (λ (l : List ℕ). l ++ process ∷ []) k.processes;
+    processes = map-append (λ (q : ℕ × Cred). q.0) w.machine.bus.processes ((process, cred) ∷ []) ∙ ap (λ (l : List ℕ). l ++ process ∷ []) k.processes;
     threads = k.threads;
     begun = refl;
     untouched = λ b. clash b;

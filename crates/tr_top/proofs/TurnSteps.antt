@@ -1,11 +1,17 @@
 -- A turn of a call: its action or its reply may come, and calls stand after it.
 use Rattle.std.proofs.Common.{◌≡◌, ◌≢◌, ℕ, ◌*◌, ◌/◌, ◌<◌, ◌≤◌, List, [], ◌∷◌, ◌++◌, length, false, Option, Some, None, refl, sym, ap, subst, ◌∙◌, arith}
-use Rattle.zo_layout.specs.Layout.{page_at, root_control, root_page}
+use Rattle.zo_layout.specs.Layout.{page_at, word_of, root_control, root_page, coffer_table, committed_word}
 use Rattle.tr_types.specs.KernelView.{pages_of}
 use Rattle.pm_words.specs.Word.{Word}
-use Rattle.pm_words.specs.Memory.{all_durable, HasPages}
-use Rattle.pm_words.proofs.WordLemmas.{has_pages, length_all_durable}
-use Rattle.tr_types.specs.NewImage.{new_image}
+use Rattle.pm_words.specs.Memory.{all_durable, word_at, HasPages}
+use Rattle.pm_words.proofs.WordLemmas.{has_pages, length_all_durable, word_at_all_durable}
+use Rattle.tr_types.specs.NewImage.{new_image, coffer_word}
+use Rattle.tr_types.specs.RootCoffer.{IsRootAlone}
+use Rattle.tr_types.specs.KernelRules.{IsFirstFault}
+use Rattle.tr_types.proofs.NewKernel.{new_committed, new_is_sound, new_tables}
+use Rattle.tr_types.proofs.RootLemmas.{idle_word}
+use Rattle.kern_view.proofs.FaultLemmas.{none_in_sound}
+use Rattle.bus_machine.specs.Opening.{bus_opened, OpensAsIs}
 use Rattle.tr_types.specs.Tree.{new_tree}
 use Rattle.zo_ops.proofs.NewLaws.{laid_new, roles_in_new}
 use Rattle.tr_types.specs.Denotes.{dir_of}
@@ -80,7 +86,7 @@ same_call t u c d threads commands = ap (λ (x : ℕ). call_of x c) threads ∙ 
 aside_acted : (w : World) (thread u : ℕ) (m : Mark) (action : Action) (answer : Answer) → u ≢ thread → IsAside w u → IsAside (stepped w (entry.Act thread 0 m action answer)) u
 aside_acted w thread u m action answer ne a = record {
   idle = put_other w.phases thread _ u ne ∙ a.idle;
-  closed = register_kept w.machine.bus thread u action answer ne ∙ a.closed;
+  closed = register_kept w.machine.bus thread u 0 action answer ne ∙ a.closed;
 }
 
 -- An action.
@@ -98,7 +104,7 @@ module _ (w : World) (p : Place) (trace : List Entry) (call next : RunningCall) 
       (subst (λ (r : Option Running). IsOfCall p.dir r (e answer)) (sym k.running)
       (thread, refl, acts.marked ∙ ap (λ (c : Command). mark_of (dir_of w.machine.bus.words) c action) command ∙ ap (λ (d : ℕ). mark_of d call.session.command.now action) (sym k.dir)))
 
-  pub act_sound : (answer : Answer) → Answers w.machine.bus next.session.thread action answer → IsSound w (e answer)
+  pub act_sound : (answer : Answer) → Answers w.machine.bus next.session.thread 0 action answer → IsSound w (e answer)
   act_sound answer is =
       let goes = acts.goes answer is in
       record {
@@ -110,7 +116,7 @@ module _ (w : World) (p : Place) (trace : List Entry) (call next : RunningCall) 
         unlost = refl;
       }
 
-  pub act_stands : (answer : Answer) → next.asked ≡ length trace → Answers w.machine.bus next.session.thread action answer → StandsAs (stepped w (e answer)) (followed p (e answer)) (trace ++ e answer ∷ []) (Some next)
+  pub act_stands : (answer : Answer) → next.asked ≡ length trace → Answers w.machine.bus next.session.thread 0 action answer → StandsAs (stepped w (e answer)) (followed p (e answer)) (trace ++ e answer ∷ []) (Some next)
   act_stands answer asked is =
       let goes = acts.goes answer is in
       record {
@@ -119,7 +125,7 @@ module _ (w : World) (p : Place) (trace : List Entry) (call next : RunningCall) 
             (sym (ap (answer_to (trace ++ e answer ∷ [])) asked ∙ answer_new trace next.session.thread 0 m action answer)) goes.knows;
         others = aside answer;
         running = acted_running p.turns m p ∙ k.running ∙ same_call _ _ _ _ (sym thread) (sym command);
-        dir = acted_dir p.turns m p ∙ k.dir ∙ ap (λ (n : ℕ). page_at (root_page n)) (sym (pages_acted action answer w.machine.bus.words));
+        dir = acted_dir p.turns m p ∙ k.dir ∙ ap (λ (n : ℕ). page_at (root_page n)) (sym (pages_acted next.session.thread 0 action answer w.machine.bus));
       }
 
 -- The reply.
@@ -225,6 +231,22 @@ pages_in words image pages is made = ap (λ (ws : List Word). pages_of ws) (is �
     whole : (n : ℕ) → 512 * n / 512 ≡ n
     whole n = omega arith
 
+-- the root coffer is the only one in a new image
+alone_in_new : (pages : ℕ) → 64 ≤ pages → pages ≤ 16384 → IsRootAlone (all_durable (new_image pages))
+alone_in_new pages least most =
+    let words = all_durable (new_image pages) in
+    let size : pages_of words ≡ pages = pages_in words (new_image pages) pages refl refl in
+    let count = new_committed pages least most in
+    record {
+      idle = record {
+        present = count;
+        older = ap (λ (w : Word). w.older) (word_at_all_durable (new_image pages) (committed_word / 8) (let len = length_new_image pages in omega arith));
+      };
+      entries = λ i lt.
+          subst (λ (n : ℕ). (word_at words (word_of (page_at (coffer_table n)) i)).present ≡ coffer_word n i) (sym size)
+          (sym (idle_word words (word_of (page_at (coffer_table pages)) i) count) ∙ (new_tables pages least most).entries i lt);
+    }
+
 ground_of : (pages : ℕ) → 64 ≤ pages → pages ≤ 16384 → IsGrounded (all_durable (new_image pages)) new_tree
 ground_of pages least most =
     let size : pages_of (all_durable (new_image pages)) ≡ pages = pages_in (all_durable (new_image pages)) (new_image pages) pages refl refl in (
@@ -241,6 +263,7 @@ ground_of pages least most =
         control = ap (λ (n : ℕ). page_at (root_control n)) (sym size);
         dir = ap (λ (n : ℕ). page_at (root_page n)) (sym size);
       },
+      alone_in_new pages least most,
     )
 
 pub quiet_first : (lines : List Line) (trace : List Entry) (pages : ℕ) → pages ≡ pages_made lines → 64 ≤ pages → pages ≤ 16384 → trace ≡ [] → IsQuiet (world_after lines trace) (place_after lines trace)
@@ -251,8 +274,10 @@ quiet_first lines trace pages made least most none = subst (λ (t : List Entry).
   running = before_running lines None 0;
 })
 
-pub image_is : (words : List Word) (image : List ℕ) (pages : ℕ) → words ≡ all_durable image → image ≡ new_image pages → words ≡ all_durable (new_image (pages_of words))
-image_is words image pages is made = is ∙ ap all_durable made ∙ ap (λ (n : ℕ). all_durable (new_image n)) (sym (pages_in words image pages is made))
+-- and no rule of the kernel's pages fails in its image, over which the machine opens as it is
+pub no_fault : (words : List Word) (pages place : ℕ) → words ≡ all_durable (new_image pages) → 64 ≤ pages → pages ≤ 16384 → IsFirstFault words place → ⊥
+no_fault words pages place is least most first = none_in_sound (all_durable (new_image pages)) place (new_is_sound pages least most) (subst (λ (ws : List Word). IsFirstFault ws place) is first)
 
-pub bus_first : (bus : Bus) (words : List Word) (image : List ℕ) (pages : ℕ) → words ≡ all_durable image → image ≡ new_image pages → bus ≡ bus_over (new_image (pages_of words)) → bus ≡ bus_over (new_image pages)
-bus_first bus words image pages is made opened = opened ∙ ap (λ (n : ℕ). bus_over (new_image n)) (pages_in words image pages is made)
+pub bus_first : (bus : Bus) (words : List Word) (pages : ℕ) → OpensAsIs → words ≡ all_durable (new_image pages) → 64 ≤ pages → pages ≤ 16384 → bus ≡ bus_opened words → bus ≡ bus_over (new_image pages)
+bus_first bus words pages law is least most opened =
+    opened ∙ ap (λ (ws : List Word). bus_opened ws) is ∙ law (new_image pages) (new_is_sound pages least most) (new_committed pages least most)

@@ -1,5 +1,5 @@
 -- What the parts of a run keep.
-use Rattle.std.specs.Prelude.{◌≡◌, ◌≢◌, ℕ, ◌<◌, ◌≤◌, List, [], ◌∷◌, ◌++◌, length, Option, Some, None, unwrap_or, true, false, Ok, Err}
+use Rattle.std.specs.Prelude.{◌≡◌, ◌≢◌, ℕ, ◌<◌, ◌≤◌, List, [], ◌∷◌, ◌++◌, length, map, Option, Some, None, unwrap_or, true, false, Ok, Err}
 use Rattle.std.specs.declared.result.Result.{Result}
 use Rattle.std.specs.Io.KnownBytes.{Appends}
 use Rattle.tr_types.specs.Denotes.{dir_of}
@@ -133,7 +133,7 @@ pub record WhoStays (old new : Machine) : Type 0 where
 -- The machine has started what the lines so far have declared, and is untouched where there are none. A call that runs
 -- is that of the thread whose `call` line has had no `finish` line.
 pub record IsLike (lines : List Line) (m : Machine) (p : Place) (d : Declared) : Type 0 where
-  pub processes : m.bus.processes ≡ d.processes
+  pub processes : map (λ p. p.0) m.bus.processes ≡ d.processes
   pub threads : m.bus.threads ≡ d.threads
   pub begun : m.begun ≡ d.begun
   pub untouched : m.begun ≡ false → m.bus ≡ bus_over (opening lines)

@@ -15,7 +15,7 @@ ghost use Rattle.tr_top.specs.Run.{pages_made, world_after, place_after};
 ghost use Rattle.tr_top.specs.Running.{Goes, IsTied, IsSound, Stands, StandsTurned, TurnsTo, AreDue, WhoStays, IsNextLine, Passes, IsCallGiven, IsBefore, IsOfThread};
 
 use crate::log::{Log, Stop};
-use bus_machine::Machine;
+use bus_machine::{Machine, MountFault, open_law};
 use kern_journal::new_image;
 use pm_words::Image;
 use std::alloc::{AllocError, Global};
@@ -62,10 +62,17 @@ impl<'a> Runner<'a> {
         ensures stands { IfOk result (λ r. Stands script.now r.log.trace r.running) }
     {
         let words = new_image(alloc, pages)?;
+        // No rule of the kernel's pages fails in a new image, and nothing is committed in it.
+        open_law();
+        let machine = match Machine::open(alloc, words) {
+            Ok(machine) => machine,
+            Err(MountFault::NoMemory) => return Err(AllocError),
+            Err(MountFault::BadKernel(_)) => unreachable!(),
+        };
         Ok(Runner {
             alloc,
             script,
-            machine: Machine::open(alloc, words)?,
+            machine,
             log: Log::new(alloc),
             running: None,
         })
@@ -355,14 +362,14 @@ impl<'a> Runner<'a> {
         requires room { length self.old.log.trace < 4194304 }
         requires built { IsBuilt action }
         requires follows { (answer : Answer) → MayFollow (place_after self.old.script.now self.old.log.trace) (entry.Act thread 0 mark action answer) }
-        requires sound { (answer : Answer) → Answers (world_after self.old.script.now self.old.log.trace).machine.bus thread action answer →
+        requires sound { (answer : Answer) → Answers (world_after self.old.script.now self.old.log.trace).machine.bus thread 0 action answer →
             IsSound (world_after self.old.script.now self.old.log.trace) (entry.Act thread 0 mark action answer) }
         ensures same { self.new.script.now ≡ self.old.script.now }
         ensures running { self.new.running ≡ self.old.running }
         ensures goes { Goes self.old.script.now self.old.log.trace self.new.log.trace
             (O.written out.old) (O.written out.new) (O.faults out.old) (O.faults out.new) result }
         ensures tied { OnOk result (IsTied self.old.script.now self.new.machine self.new.log.trace) }
-        ensures added { OnOk result ((answer : Answer) × Answers (world_after self.old.script.now self.old.log.trace).machine.bus thread action answer
+        ensures added { OnOk result ((answer : Answer) × Answers (world_after self.old.script.now self.old.log.trace).machine.bus thread 0 action answer
             × (self.new.log.trace ≡ self.old.log.trace ++ entry.Act thread 0 mark action answer ∷ [])) }
     {
         let answer = self.machine.act(thread, 0, &action)?;

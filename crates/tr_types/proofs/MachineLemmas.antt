@@ -1,5 +1,5 @@
 -- Laws of the machine: what an entry leaves of the length of the memory, of its words and of the registers.
-use Rattle.std.proofs.Common.{◌≡◌, ◌≢◌, ◌⊎◌, ℕ, ◌/◌, ◌<◌, ◌≤◌, List, [], ◌∷◌, ◌++◌, length, map, Contains, fold, slice_index_or, zero, suc, refl, sym, ap, subst, ◌∙◌, inl, inr, arith, get_or-set_other}
+use Rattle.std.proofs.Common.{◌≡◌, ◌≢◌, ◌⊎◌, ℕ, ◌/◌, ◌<◌, ◌≤◌, List, [], ◌∷◌, ◌++◌, length, map, Contains, slice_index_or, zero, suc, refl, sym, ap, subst, ◌∙◌, inl, inr, arith, get_or-set_other}
 use Rattle.std.proofs.lemmas.List.{length-set, get_or_past}
 use Rattle.std.proofs.lemmas.List.FromFn.{length-map-range_with_len, get_or-map-range_with_len}
 use Rattle.std.proofs.lemmas.Bool.{cases_eq, cases_lt}
@@ -7,11 +7,12 @@ use Rattle.std.specs.List.{range_with_len}
 use Rattle.pm_words.specs.Word.{Word, settled}
 use Rattle.pm_words.specs.Memory.{store_at}
 use Rattle.pm_words.proofs.WordLemmas.{length_store_at, other_place}
-use Rattle.zo_layout.specs.Layout.{owner_word}
 use Rattle.tr_types.specs.KernelView.{pages_of}
 use Rattle.tr_types.specs.Denotes.{value}
-use Rattle.tr_types.specs.Machine.{Machine, Bus, IsThread, HasRegisters, Fits, acted, called, registered, bus_after, bus_moved, bus_over, with_thread, closed_pkrus, pkru_of}
+use Rattle.tr_types.specs.Machine.{Machine, Bus, IsThread, HasRegisters, Fits, acted, callers_of, registered, bus_after, bus_moved, bus_over, with_thread, closed_pkrus, pkru_of}
 use Rattle.tr_types.specs.Rights.{closed_pkru}
+use Rattle.tr_types.specs.KernelCalls.{inner_of}
+use Rattle.tr_types.proofs.StepLemmas.{length_run, changed_by}
 use Rattle.tr_types.specs.World.{World, MayCome}
 use Rattle.tr_types.specs.Windows.{IsConfined}
 use Rattle.tr_types.specs.declared.action.Action.{Action}
@@ -22,68 +23,11 @@ use Rattle.tr_types.specs.declared.entry.Entry.{Entry}
 use Rattle.tr_types.specs.declared.entry.Entry.TheVariants as entry
 use Rattle.tr_types.specs.declared.entry.Mark.{Mark}
 use Rattle.tr_types.specs.declared.kernel_call.Kcall.{Kcall}
-use Rattle.tr_types.specs.declared.kernel_call.Kcall.TheVariants as call
 use Rattle.tr_types.specs.declared.kernel_call.KernAnswer.{KernAnswer}
-use Rattle.tr_types.specs.declared.kernel_call.KernAnswer.TheVariants as kern
-
--- Pages that are given: their owner words are stored, where the owner table is that of this number of pages.
-abbrev with_owner : ℕ → ℕ → List Word → ℕ → List Word
-with_owner count coffer words page = store_at (owner_word count page) coffer words
-
-length_given : (count coffer : ℕ) (pages : List ℕ) (words : List Word) → length (fold (with_owner count coffer) words pages) ≡ length words
-length_given count coffer [] words = refl
-length_given count coffer (page ∷ pages) words = length_given count coffer pages (with_owner count coffer words page) ∙ length_store_at (owner_word count page) coffer words
 
 -- a store leaves the word at every other place
 value_kept : (at word addr : ℕ) (words : List Word) → at / 8 ≢ addr / 8 → value (store_at at word words) addr ≡ value words addr
 value_kept at word addr words ne = ap (λ (w : Word). w.present) (other_place at word words (addr / 8) (settled 0) (λ e. ne (sym e)))
-
-given_changes : (count coffer addr : ℕ) (pages : List ℕ) (words : List Word) → value (fold (with_owner count coffer) words pages) addr ≢ value words addr → (page : ℕ) × Contains pages page × (owner_word count page / 8 ≡ addr / 8)
-given_changes count coffer addr [] words changes = absurd (changes refl)
-given_changes count coffer addr (page ∷ pages) words changes = by (cases_eq (owner_word count page / 8) (addr / 8)) (given_changes count coffer addr pages (with_owner count coffer words page))
-  where
-    by : (owner_word count page / 8 ≡ addr / 8) ⊎ (owner_word count page / 8 ≢ addr / 8)
-        → (value (fold (with_owner count coffer) words (page ∷ pages)) addr ≢ value (with_owner count coffer words page) addr → (p : ℕ) × Contains pages p × (owner_word count p / 8 ≡ addr / 8))
-        → (p : ℕ) × Contains (page ∷ pages) p × (owner_word count p / 8 ≡ addr / 8)
-    by (inl same) later = (page, (0, omega arith, refl), same)
-    by (inr ne) later =
-        let (p, (k, lt, at), same) = later (λ e. changes (e ∙ value_kept (owner_word count page) coffer addr words ne)) in
-        (p, (suc k, omega arith, at), same)
-
--- The memory keeps its length.
-length_called : (call : Kcall) (answer : KernAnswer) (words : List Word) → length (called call answer words) ≡ length words
-length_called (call.Find path also) answer words = refl
-length_called (call.Map path right exclusive) answer words = refl
-length_called (call.Unmap id) answer words = refl
-length_called (call.New parent path kind mode link guard) answer words = refl
-length_called (call.Delete id parent link guard) answer words = refl
-length_called (call.Enlarge id count) kern.Done words = refl
-length_called (call.Enlarge id count) kern.Same words = refl
-length_called (call.Enlarge id count) (kern.Found first second) words = refl
-length_called (call.Enlarge id count) (kern.Mapped m) words = refl
-length_called (call.Enlarge id count) (kern.Made made) words = refl
-length_called (call.Enlarge id count) (kern.Pages pages) words = length_given (pages_of words) id pages words
-length_called (call.Enlarge id count) kern.NotHeld words = refl
-length_called (call.Enlarge id count) kern.BadPath words = refl
-length_called (call.Enlarge id count) (kern.Denied right other path_len) words = refl
-length_called (call.Enlarge id count) (kern.Quarantined other path_len) words = refl
-length_called (call.Enlarge id count) (kern.InUse thread other path_len) words = refl
-length_called (call.Enlarge id count) (kern.NoKey other path_len) words = refl
-length_called (call.Enlarge id count) (kern.NotYours page) words = refl
-length_called (call.Enlarge id count) (kern.GuardFailed at word) words = refl
-length_called (call.Enlarge id count) (kern.LinkDiffers at word) words = refl
-length_called (call.Enlarge id count) kern.Taken words = refl
-length_called (call.Enlarge id count) kern.TooMany words = refl
-length_called (call.Enlarge id count) (kern.NoPages asked free) words = refl
-length_called (call.Enlarge id count) kern.NoCoffer words = refl
-length_called (call.Enlarge id count) kern.NotEmptyList words = refl
-length_called (call.Enlarge id count) kern.BadCount words = refl
-length_called (call.Enlarge id count) kern.NoMemory words = refl
-length_called (call.Shrink id pages guard) answer words = refl
-length_called (call.Split id path pages mode link guard) answer words = refl
-length_called (call.Merge child parent pages link guard) answer words = refl
-length_called (call.Mode id mode) answer words = refl
-length_called (call.Recover id ready) answer words = refl
 
 -- An entry changes a word only by a permitted store, or by giving pages.
 by_store : (bus : Bus) (thread at word addr : ℕ) → value (store_at at word bus.words) addr ≢ value bus.words addr → at / 8 ≡ addr / 8
@@ -93,39 +37,9 @@ by_store bus thread at word addr changes = by (cases_eq (at / 8) (addr / 8))
     by (inl same) = same
     by (inr ne) = absurd (changes (value_kept at word addr bus.words ne))
 
-by_call : (w : World) (thread now : ℕ) (mark : Mark) (call : Kcall) (answer : KernAnswer) → IsConfined w (entry.Act thread now mark (Kernel call) (Kern answer))
-by_call w thread now mark (call.Find path also) answer addr changes = changes refl
-by_call w thread now mark (call.Map path right exclusive) answer addr changes = changes refl
-by_call w thread now mark (call.Unmap id) answer addr changes = changes refl
-by_call w thread now mark (call.New parent path kind mode link guard) answer addr changes = changes refl
-by_call w thread now mark (call.Delete id parent link guard) answer addr changes = changes refl
-by_call w thread now mark (call.Enlarge id count) kern.Done addr changes = changes refl
-by_call w thread now mark (call.Enlarge id count) kern.Same addr changes = changes refl
-by_call w thread now mark (call.Enlarge id count) (kern.Found first second) addr changes = changes refl
-by_call w thread now mark (call.Enlarge id count) (kern.Mapped m) addr changes = changes refl
-by_call w thread now mark (call.Enlarge id count) (kern.Made made) addr changes = changes refl
-by_call w thread now mark (call.Enlarge id count) (kern.Pages pages) addr changes = given_changes (pages_of w.machine.bus.words) id addr pages w.machine.bus.words changes
-by_call w thread now mark (call.Enlarge id count) kern.NotHeld addr changes = changes refl
-by_call w thread now mark (call.Enlarge id count) kern.BadPath addr changes = changes refl
-by_call w thread now mark (call.Enlarge id count) (kern.Denied right other path_len) addr changes = changes refl
-by_call w thread now mark (call.Enlarge id count) (kern.Quarantined other path_len) addr changes = changes refl
-by_call w thread now mark (call.Enlarge id count) (kern.InUse other_thread other path_len) addr changes = changes refl
-by_call w thread now mark (call.Enlarge id count) (kern.NoKey other path_len) addr changes = changes refl
-by_call w thread now mark (call.Enlarge id count) (kern.NotYours page) addr changes = changes refl
-by_call w thread now mark (call.Enlarge id count) (kern.GuardFailed at word) addr changes = changes refl
-by_call w thread now mark (call.Enlarge id count) (kern.LinkDiffers at word) addr changes = changes refl
-by_call w thread now mark (call.Enlarge id count) kern.Taken addr changes = changes refl
-by_call w thread now mark (call.Enlarge id count) kern.TooMany addr changes = changes refl
-by_call w thread now mark (call.Enlarge id count) (kern.NoPages asked free) addr changes = changes refl
-by_call w thread now mark (call.Enlarge id count) kern.NoCoffer addr changes = changes refl
-by_call w thread now mark (call.Enlarge id count) kern.NotEmptyList addr changes = changes refl
-by_call w thread now mark (call.Enlarge id count) kern.BadCount addr changes = changes refl
-by_call w thread now mark (call.Enlarge id count) kern.NoMemory addr changes = changes refl
-by_call w thread now mark (call.Shrink id pages guard) answer addr changes = changes refl
-by_call w thread now mark (call.Split id path pages mode link guard) answer addr changes = changes refl
-by_call w thread now mark (call.Merge child parent pages link guard) answer addr changes = changes refl
-by_call w thread now mark (call.Mode id mode) answer addr changes = changes refl
-by_call w thread now mark (call.Recover id ready) answer addr changes = changes refl
+by_call : (w : World) (thread now : ℕ) (mark : Mark) (kcall : Kcall) (answer : KernAnswer) → IsConfined w (entry.Act thread now mark (Kernel kcall) (Kern answer))
+by_call w thread now mark kcall answer addr changes =
+    changed_by (inner_of (callers_of w.machine.bus) w.machine.bus.words w.machine.bus.holders thread now kcall) w.machine.bus.words addr changes
 
 by_action : (w : World) (thread now : ℕ) (mark : Mark) (action : Action) (answer : Answer) → MayCome w (entry.Act thread now mark action answer) → IsConfined w (entry.Act thread now mark action answer)
 by_action w thread now mark (Store at word) Done may addr changes = (by_store w.machine.bus thread at word addr changes, may.2)
@@ -169,42 +83,42 @@ confined w (entry.Skip line why) may addr changes = changes refl
 confined w (entry.Quarantine path) may addr changes = changes refl
 confined w (entry.Coffers list) may addr changes = changes refl
 
-length_acted : (action : Action) (answer : Answer) (words : List Word) → length (acted action answer words) ≡ length words
-length_acted (Store at word) Done words = length_store_at at word words
-length_acted (Store at word) (WordIs x) words = refl
-length_acted (Store at word) (Fault kind) words = refl
-length_acted (Store at word) (Kern answer) words = refl
-length_acted (Kernel call) (Kern answer) words = length_called call answer words
-length_acted (Kernel call) Done words = refl
-length_acted (Kernel call) (WordIs x) words = refl
-length_acted (Kernel call) (Fault kind) words = refl
-length_acted (Load at) answer words = refl
-length_acted (Cas at old new) answer words = refl
-length_acted (Flush at) answer words = refl
-length_acted Fence answer words = refl
-length_acted (Pkru pkru) answer words = refl
+length_acted : (thread now : ℕ) (action : Action) (answer : Answer) (bus : Bus) → length (acted thread now action answer bus) ≡ length bus.words
+length_acted thread now (Store at word) Done bus = length_store_at at word bus.words
+length_acted thread now (Store at word) (WordIs x) bus = refl
+length_acted thread now (Store at word) (Fault kind) bus = refl
+length_acted thread now (Store at word) (Kern answer) bus = refl
+length_acted thread now (Kernel kcall) (Kern answer) bus = length_run (inner_of (callers_of bus) bus.words bus.holders thread now kcall) bus.words
+length_acted thread now (Kernel kcall) Done bus = refl
+length_acted thread now (Kernel kcall) (WordIs x) bus = refl
+length_acted thread now (Kernel kcall) (Fault kind) bus = refl
+length_acted thread now (Load at) answer bus = refl
+length_acted thread now (Cas at old new) answer bus = refl
+length_acted thread now (Flush at) answer bus = refl
+length_acted thread now Fence answer bus = refl
+length_acted thread now (Pkru pkru) answer bus = refl
 
 -- an action keeps the number of pages
-pub pages_acted : (action : Action) (answer : Answer) (words : List Word) → pages_of (acted action answer words) ≡ pages_of words
-pages_acted action answer words = ap (λ n. n / 512) (length_acted action answer words)
+pub pages_acted : (thread now : ℕ) (action : Action) (answer : Answer) (bus : Bus) → pages_of (acted thread now action answer bus) ≡ pages_of bus.words
+pages_acted thread now action answer bus = ap (λ n. n / 512) (length_acted thread now action answer bus)
 
 -- An action of a thread leaves the registers of all others, and their number.
-pub register_kept : (bus : Bus) (thread other : ℕ) (action : Action) (answer : Answer) → other ≢ thread → pkru_of (bus_after thread action answer bus) other ≡ pkru_of bus other
-register_kept bus thread other (Pkru pkru) Done ne = get_or-set_other bus.pkrus thread other pkru closed_pkru ne
-register_kept bus thread other (Pkru pkru) (WordIs x) ne = refl
-register_kept bus thread other (Pkru pkru) (Fault kind) ne = refl
-register_kept bus thread other (Pkru pkru) (Kern answer) ne = refl
-register_kept bus thread other (Store at word) answer ne = refl
-register_kept bus thread other (Kernel call) answer ne = refl
-register_kept bus thread other (Load at) answer ne = refl
-register_kept bus thread other (Cas at old new) answer ne = refl
-register_kept bus thread other (Flush at) answer ne = refl
-register_kept bus thread other Fence answer ne = refl
+pub register_kept : (bus : Bus) (thread other now : ℕ) (action : Action) (answer : Answer) → other ≢ thread → pkru_of (bus_after thread now action answer bus) other ≡ pkru_of bus other
+register_kept bus thread other now (Pkru pkru) Done ne = get_or-set_other bus.pkrus thread other pkru closed_pkru ne
+register_kept bus thread other now (Pkru pkru) (WordIs x) ne = refl
+register_kept bus thread other now (Pkru pkru) (Fault kind) ne = refl
+register_kept bus thread other now (Pkru pkru) (Kern answer) ne = refl
+register_kept bus thread other now (Store at word) answer ne = refl
+register_kept bus thread other now (Kernel call) answer ne = refl
+register_kept bus thread other now (Load at) answer ne = refl
+register_kept bus thread other now (Cas at old new) answer ne = refl
+register_kept bus thread other now (Flush at) answer ne = refl
+register_kept bus thread other now Fence answer ne = refl
 
 -- an entry keeps the number of pages
 pub pages_moved : (bus : Bus) (e : Entry) → pages_of (bus_moved bus e).words ≡ pages_of bus.words
-pages_moved bus (entry.Act thread now mark action answer) = pages_acted action answer bus.words
-pages_moved bus (entry.Stray thread addr word answer) = pages_acted (Store addr word) answer bus.words
+pages_moved bus (entry.Act thread now mark action answer) = pages_acted thread now action answer bus
+pages_moved bus (entry.Stray thread addr word answer) = pages_acted thread 0 (Store addr word) answer bus
 pages_moved bus (entry.Mkfs pages) = refl
 pages_moved bus (entry.Process process cred) = refl
 pages_moved bus (entry.Thread thread process) = refl

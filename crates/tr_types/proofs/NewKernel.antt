@@ -14,11 +14,14 @@ use Rattle.tr_types.specs.NewImage.{new_image, new_word, word_in_page, superbloc
 use Rattle.tr_types.specs.Paths.{same_text, is_path_text}
 use Rattle.tr_types.specs.KernelView.{pages_of}
 use Rattle.tr_types.specs.Journal.{IsHome, committed, committed_count, pair_at, laid_over, kernel_word}
-use Rattle.tr_types.specs.KernelTables.{Coffer, owner_in, all_ids, longest_chain, chain_from, chain_in, path_in, path_bytes, coffer_in, stands_in, is_there, is_id, owner_fails, coffer_fails, path_fails, pages_fail, path_stands_twice, owns, entry_fails, bucket_fails, belongs, is_in_chain, none_twice}
+use Rattle.tr_types.specs.KernelTables.{Coffer, owner_in, all_ids, longest_chain, chain_from, chain_in, path_in, path_bytes, coffer_in, coffers_in, stands_in, is_there, is_id, owner_fails, coffer_fails, path_fails, pages_fail, path_stands_twice, owns, entry_fails, bucket_fails, belongs, is_in_chain, none_twice}
 use Rattle.tr_types.specs.KernelRules.{IsSoundKernel}
 use Rattle.tr_types.proofs.FreePages.{pages_are, owner_new, size_new, size_opened}
 
--- What is read of the tables of a new image.
+-- What is read of the coffer table of a new image, and of all its tables.
+abbrev pub IsNewEntries : ℕ → (ℕ → ℕ) → Type 0
+IsNewEntries pages at = (i : ℕ) → i < 16384 → at (word_of (page_at (coffer_table pages)) i) ≡ coffer_word pages i
+
 pub record IsNewTables (pages : ℕ) (at : ℕ → ℕ) : Type 0 where
   pub owners : (page : ℕ) → page < pages → at (owner_word pages page) ≡ owner_in_new pages page
   pub entries : (i : ℕ) → i < 16384 → at (word_of (page_at (coffer_table pages)) i) ≡ coffer_word pages i
@@ -51,16 +54,16 @@ later_word pages i le =
     ∙ ap (λ (b : Bool). cond b 47 0) (ne_eqb i 9 (λ e. omega arith))
 
 -- word k of the first entry
-first_entry : (pages : ℕ) (at : ℕ → ℕ) → IsNewTables pages at → (addr k : ℕ) → k < 64 → addr ≡ word_of (page_at (coffer_table pages)) k → at addr ≡ coffer_word pages k
-first_entry pages at new addr k lt is = ap at is ∙ new.entries k (omega arith)
+first_entry : (pages : ℕ) (at : ℕ → ℕ) → IsNewEntries pages at → (addr k : ℕ) → k < 64 → addr ≡ word_of (page_at (coffer_table pages)) k → at addr ≡ coffer_word pages k
+first_entry pages at new addr k lt is = ap at is ∙ new k (omega arith)
 
-pub root_stands : (pages : ℕ) (at : ℕ → ℕ) → IsNewTables pages at → stands_in pages at 1 ≡ true
+pub root_stands : (pages : ℕ) (at : ℕ → ℕ) → IsNewEntries pages at → stands_in pages at 1 ≡ true
 root_stands pages at new = ap is_there (first_entry pages at new (coffer_state (coffer_entry pages 1)) 0 (omega arith) (omega arith))
 
-no_other : (pages : ℕ) (at : ℕ → ℕ) → IsNewTables pages at → (id : ℕ) → 2 ≤ id → id ≤ 256 → at (coffer_state (coffer_entry pages id)) ≡ 0
-no_other pages at new id low high = new.entries (64 * (id - 1)) (omega arith) ∙ later_word pages (64 * (id - 1)) (omega arith)
+no_other : (pages : ℕ) (at : ℕ → ℕ) → IsNewEntries pages at → (id : ℕ) → 2 ≤ id → id ≤ 256 → at (coffer_state (coffer_entry pages id)) ≡ 0
+no_other pages at new id low high = new (64 * (id - 1)) (omega arith) ∙ later_word pages (64 * (id - 1)) (omega arith)
 
-none_stands : (pages : ℕ) (at : ℕ → ℕ) → IsNewTables pages at → (id : ℕ) → 2 ≤ id → id ≤ 256 → stands_in pages at id ≡ false
+none_stands : (pages : ℕ) (at : ℕ → ℕ) → IsNewEntries pages at → (id : ℕ) → 2 ≤ id → id ≤ 256 → stands_in pages at id ≡ false
 none_stands pages at new id low high = ap is_there (no_other pages at new id low high)
 
 -- a test that holds of the first of a row alone
@@ -78,7 +81,7 @@ among_ids : (test : ℕ → Bool) → ((i : ℕ) → 2 ≤ i → i ≤ 256 → t
 unfolding all_ids
 among_ids test none = filter_first test 255 (λ i low high. none i low (omega arith))
 
-root_path : (pages : ℕ) (at : ℕ → ℕ) → IsNewTables pages at → path_in pages at 1 ≡ codes "/"
+root_path : (pages : ℕ) (at : ℕ → ℕ) → IsNewEntries pages at → path_in pages at 1 ≡ codes "/"
 root_path pages at new =
     ap (λ (n : ℕ). cond (nat_le n 440) (take n (path_bytes pages at 1)) []) (first_entry pages at new (coffer_path_length (coffer_entry pages 1)) 7 (omega arith) (omega arith))
     ∙ ap (λ (w : ℕ). take 1 (to_le_bytes w64 w ++ flat_map (λ i. to_le_bytes w64 (at (coffer_path_word (coffer_entry pages 1) i))) (range_with_len 1 54)))
@@ -86,8 +89,8 @@ root_path pages at new =
 
 root_path_passes : (pages : ℕ) (at : ℕ → ℕ) → IsNewTables pages at → path_fails pages at 1 ≡ false
 root_path_passes pages at new =
-    ap (λ (n : ℕ). not (nat_le n 440 && is_path_text (path_in pages at 1))) (first_entry pages at new (coffer_path_length (coffer_entry pages 1)) 7 (omega arith) (omega arith))
-    ∙ ap (λ (path : List ℕ). not (is_path_text path)) (root_path pages at new)
+    ap (λ (n : ℕ). not (nat_le n 440 && is_path_text (path_in pages at 1))) (first_entry pages at new.entries (coffer_path_length (coffer_entry pages 1)) 7 (omega arith) (omega arith))
+    ∙ ap (λ (path : List ℕ). not (is_path_text path)) (root_path pages at new.entries)
 
 root_owns : (pages : ℕ) (at : ℕ → ℕ) → IsNewTables pages at → (page : ℕ) → kernel_pages pages ≤ page → page < kernel_pages pages + 2 → page < pages → owns pages at 1 page ≡ true
 root_owns pages at new page low high lt =
@@ -98,7 +101,7 @@ root_owns pages at new page low high lt =
 root_coffer : ℕ → Coffer
 root_coffer pages = record { id = 1; path = codes "/"; perm = record { uid = 0; gid = 0; mode = 438 }; state = 1; kind = 0; control = root_control pages; root = root_page pages }
 
-root_is : (pages : ℕ) (at : ℕ → ℕ) → IsNewTables pages at → coffer_in pages at 1 ≡ root_coffer pages
+root_is : (pages : ℕ) (at : ℕ → ℕ) → IsNewEntries pages at → coffer_in pages at 1 ≡ root_coffer pages
 unfolding root_coffer
 root_is pages at new =
     let path = root_path pages at new in
@@ -111,10 +114,17 @@ root_is pages at new =
     let root = first_entry pages at new (coffer_root (coffer_entry pages 1)) 5 (omega arith) (omega arith) in
     λ i. record { id = 1; path = path i; perm = record { uid = uid i; gid = gid i; mode = mode i }; state = state i; kind = kind i; control = control i; root = root i }
 
+-- no other coffer is there
+pub one_coffer : (pages : ℕ) (at : ℕ → ℕ) → IsNewEntries pages at → coffers_in pages at ≡ record { id = 1; path = codes "/"; perm = record { uid = 0; gid = 0; mode = 438 }; state = 1; kind = 0; control = root_control pages; root = root_page pages } ∷ []
+unfolding root_coffer
+one_coffer pages at new =
+    ap (map (coffer_in pages at)) (among_ids (stands_in pages at) (none_stands pages at new) ∙ ap (λ (b : Bool). cond b (1 ∷ []) []) (root_stands pages at new))
+    ∙ ap (λ (c : Coffer). c ∷ []) (root_is pages at new)
+
 once : (pages : ℕ) (at : ℕ → ℕ) → IsNewTables pages at → path_stands_twice pages at 1 ≡ false
 once pages at new =
     ap (λ (ids : List ℕ). list_any (λ other. not (nat_eq other 1) && same_text (path_in pages at other) (path_in pages at 1)) ids)
-    (among_ids (stands_in pages at) (none_stands pages at new) ∙ ap (λ (b : Bool). cond b (1 ∷ []) []) (root_stands pages at new))
+    (among_ids (stands_in pages at) (none_stands pages at new.entries) ∙ ap (λ (b : Bool). cond b (1 ∷ []) []) (root_stands pages at new.entries))
 
 or_none : (x y : Bool) → x ≡ false → y ≡ false → (x || y) ≡ false
 or_none x y first second = ap (λ (b : Bool). b || y) first ∙ second
@@ -130,7 +140,7 @@ root_pages_pass pages at least new =
 root_passes : (pages : ℕ) (at : ℕ → ℕ) → 64 ≤ pages → IsNewTables pages at → coffer_fails pages at (coffer_in pages at 1) ≡ false
 unfolding root_coffer
 root_passes pages at least new =
-    ap (λ (c : Coffer). coffer_fails pages at c) (root_is pages at new)
+    ap (λ (c : Coffer). coffer_fails pages at c) (root_is pages at new.entries)
     ∙ or_none (path_fails pages at 1 || false || pages_fail pages at (root_coffer pages) || path_stands_twice pages at 1) false
     (or_none (path_fails pages at 1 || false || pages_fail pages at (root_coffer pages)) (path_stands_twice pages at 1)
     (or_none (path_fails pages at 1 || false) (pages_fail pages at (root_coffer pages))
@@ -154,7 +164,7 @@ new_owners pages at new page lt = by (cases_lt page (kernel_pages pages)) (cases
     by (inr behind) (inl first) =
         ap (λ (b : Bool). owner_test pages at b (owner_in pages at page)) (le-ltb page (kernel_pages pages) behind)
         ∙ ap (λ (o : ℕ). owner_test pages at false o) (new.owners page lt ∙ owner_root pages page behind first)
-        ∙ ap not (root_stands pages at new)
+        ∙ ap not (root_stands pages at new.entries)
     by (inr behind) (inr further) =
         ap (λ (b : Bool). owner_test pages at b (owner_in pages at page)) (le-ltb page (kernel_pages pages) behind)
         ∙ ap (λ (o : ℕ). owner_test pages at false o) (new.owners page lt ∙ owner_none pages page further)
@@ -165,21 +175,21 @@ new_entries pages at least new id low high = by (cases_eq id 1)
     by : (id ≡ 1) ⊎ (id ≡ 1 → ⊥) → entry_fails pages at id ≡ false
     by (inl is) =
         ap (λ (n : ℕ). entry_fails pages at n) is
-        ∙ ap (λ (b : Bool). cond b (coffer_fails pages at (coffer_in pages at 1)) (not (nat_eq (at (coffer_state (coffer_entry pages 1))) 0) || true)) (root_stands pages at new)
+        ∙ ap (λ (b : Bool). cond b (coffer_fails pages at (coffer_in pages at 1)) (not (nat_eq (at (coffer_state (coffer_entry pages 1))) 0) || true)) (root_stands pages at new.entries)
         ∙ root_passes pages at least new
     by (inr isnt) =
         let further : 2 ≤ id = omega arith in
-        ap (λ (b : Bool). cond b (coffer_fails pages at (coffer_in pages at id)) (not (nat_eq (at (coffer_state (coffer_entry pages id))) 0) || nat_eq id 1)) (none_stands pages at new id further high)
-        ∙ or_none (not (nat_eq (at (coffer_state (coffer_entry pages id))) 0)) (nat_eq id 1) (ap (λ (s : ℕ). not (nat_eq s 0)) (no_other pages at new id further high)) (ne_eqb id 1 isnt)
+        ap (λ (b : Bool). cond b (coffer_fails pages at (coffer_in pages at id)) (not (nat_eq (at (coffer_state (coffer_entry pages id))) 0) || nat_eq id 1)) (none_stands pages at new.entries id further high)
+        ∙ or_none (not (nat_eq (at (coffer_state (coffer_entry pages id))) 0)) (nat_eq id 1) (ap (λ (s : ℕ). not (nat_eq s 0)) (no_other pages at new.entries id further high)) (ne_eqb id 1 isnt)
 
 -- which coffers belong to a bucket
 new_members : (pages : ℕ) (at : ℕ → ℕ) → IsNewTables pages at → (bucket : ℕ) → filter (belongs pages at bucket) all_ids ≡ cond (nat_eq 254 bucket) (1 ∷ []) []
 new_members pages at new bucket =
     among_ids (belongs pages at bucket) (λ i low high.
-    ap (λ (b : Bool). is_id i && b && nat_eq (bucket_of (path_in pages at i)) bucket) (none_stands pages at new i low high)
+    ap (λ (b : Bool). is_id i && b && nat_eq (bucket_of (path_in pages at i)) bucket) (none_stands pages at new.entries i low high)
     ∙ never (is_id i) (nat_eq (bucket_of (path_in pages at i)) bucket))
-    ∙ ap (λ (b : Bool). cond (b && nat_eq (bucket_of (path_in pages at 1)) bucket) (1 ∷ []) []) (root_stands pages at new)
-    ∙ ap (λ (path : List ℕ). cond (nat_eq (bucket_of path) bucket) (1 ∷ []) []) (root_path pages at new)
+    ∙ ap (λ (b : Bool). cond (b && nat_eq (bucket_of (path_in pages at 1)) bucket) (1 ∷ []) []) (root_stands pages at new.entries)
+    ∙ ap (λ (path : List ℕ). cond (nat_eq (bucket_of path) bucket) (1 ∷ []) []) (root_path pages at new.entries)
   where
     never : (x y : Bool) → (x && false && y) ≡ false
     never true y = refl
@@ -202,7 +212,7 @@ new_chain pages at new bucket lt = by (cases_eq bucket 254)
     by : (bucket ≡ 254) ⊎ (bucket ≡ 254 → ⊥) → chain_in pages at bucket ≡ cond (nat_eq 254 bucket) (1 ∷ []) []
     by (inl is) =
         ap (λ (head : ℕ). chain_from (next_in pages at) longest_chain head) (new.buckets bucket (omega arith) ∙ ap (λ (b : Bool). cond b 1 0) (eq-eqb bucket 254 is))
-        ∙ chain_of_root (next_in pages at) (first_entry pages at new (coffer_next (coffer_entry pages 1)) 6 (omega arith) (omega arith))
+        ∙ chain_of_root (next_in pages at) (first_entry pages at new.entries (coffer_next (coffer_entry pages 1)) 6 (omega arith) (omega arith))
         ∙ sym (ap (λ (b : Bool). cond b (1 ∷ []) []) (eq-eqb 254 bucket (sym is)))
     by (inr isnt) =
         ap (λ (head : ℕ). chain_from (next_in pages at) longest_chain head) (new.buckets bucket (omega arith) ∙ ap (λ (b : Bool). cond b 1 0) (ne_eqb bucket 254 isnt))
@@ -221,8 +231,8 @@ new_buckets pages at new bucket lt =
     by : (254 ≡ bucket) ⊎ (254 ≡ bucket → ⊥) → bucket_test pages at bucket (cond (nat_eq 254 bucket) (1 ∷ []) []) (cond (nat_eq 254 bucket) (1 ∷ []) []) ≡ false
     by (inl is) =
         ap (λ (b : Bool). bucket_test pages at bucket (cond b (1 ∷ []) []) (cond b (1 ∷ []) [])) (eq-eqb 254 bucket is)
-        ∙ ap (λ (b : Bool). not (((b && nat_eq (bucket_of (path_in pages at 1)) bucket) && true) && true && true)) (root_stands pages at new)
-        ∙ ap (λ (path : List ℕ). not ((nat_eq (bucket_of path) bucket && true) && true && true)) (root_path pages at new)
+        ∙ ap (λ (b : Bool). not (((b && nat_eq (bucket_of (path_in pages at 1)) bucket) && true) && true && true)) (root_stands pages at new.entries)
+        ∙ ap (λ (path : List ℕ). not ((nat_eq (bucket_of path) bucket && true) && true && true)) (root_path pages at new.entries)
         ∙ ap (λ (b : Bool). not ((b && true) && true && true)) (eq-eqb 254 bucket is)
     by (inr isnt) = ap (λ (b : Bool). bucket_test pages at bucket (cond b (1 ∷ []) []) (cond b (1 ∷ []) [])) (ne_eqb 254 bucket isnt)
 

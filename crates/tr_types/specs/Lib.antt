@@ -36,3 +36,15 @@ pub mod KernelRules
 pub mod PathMap
 -- what the kernel reads
 pub mod Kernel
+-- the single steps of the kernel
+pub mod Inner
+-- what a permission gives
+pub mod Permission
+-- the kernel's calls
+pub mod KernelCalls
+-- the same, of a root coffer that is the only one
+pub mod RootCoffer
+-- what the journal's steps leave, whole or cut by crashes
+pub mod JournalLaws
+-- what a kernel call commits, and when the kernel works
+pub mod Commits

@@ -1,6 +1,6 @@
 -- Paths as texts: what is one, and which path lies under another.
-use Rattle.std.specs.Prelude.{ℕ, List, [], ◌∷◌, ◌++◌, length, Bool, false, not, ◌&&◌, ◌||◌, ◌==◌, nat_le, nat_eq, codes}
-use Rattle.std.specs.List.{list_all, starts_with}
+use Rattle.std.specs.Prelude.{ℕ, List, [], ◌∷◌, ◌++◌, length, Bool, false, not, ◌&&◌, ◌||◌, ◌==◌, nat_le, nat_eq, codes, if◌then◌else◌}
+use Rattle.std.specs.List.{list_all, starts_with, before_last}
 use Rattle.std.specs.Cmp.Lexicographic.{pointwise}
 use Rattle.tr_types.specs.Tree.{parts_of}
 
@@ -32,3 +32,10 @@ begins_with path front = same_text path front || starts_with nat_eq path (front 
 -- it begins with another, and isn't it
 abbrev pub lies_under : List ℕ → List ℕ → Bool
 lies_under path front = begins_with path front && not (same_text path front)
+
+-- The directory that a path lies in: what stands before its last `/`, or `/` where nothing does.
+abbrev pub before_last_slash : List ℕ → List ℕ
+before_last_slash path = before_last (λ byte. byte == 47) path
+
+abbrev pub directory_path : List ℕ → List ℕ
+directory_path path = if length (before_last_slash path) == 0 then codes "/" else before_last_slash path

@@ -1,11 +1,11 @@
 -- Windows and confinement: which coffer a thread may reach at a moment, and by what a word changes.
 use Rattle.std.specs.Prelude.{◌≡◌, ◌≢◌, ℕ, ◌/◌, ◌≤◌, Contains, true, false, Some, None}
-use Rattle.tr_types.specs.Machine.{Bus, pkru_of, store_refusal}
+use Rattle.tr_types.specs.Machine.{Bus, callers_of, pkru_of, store_refusal}
+use Rattle.tr_types.specs.KernelCalls.{inner_of}
+use Rattle.tr_types.specs.declared.inner.Inner.{Inner}
+use Rattle.tr_types.specs.declared.inner.Inner.TheVariants as inner
 use Rattle.tr_types.specs.Rights.{may_read, may_write, closed_pkru}
-use Rattle.zo_layout.specs.Layout.{owner_word}
-use Rattle.tr_types.specs.KernelView.{pages_of}
-use Rattle.tr_types.specs.declared.kernel_call.Kcall.TheVariants.{Find, Enlarge}
-use Rattle.tr_types.specs.declared.kernel_call.KernAnswer.TheVariants.{Pages}
+use Rattle.tr_types.specs.declared.kernel_call.Kcall.TheVariants.{Find}
 use Rattle.tr_types.specs.Denotes.{value}
 use Rattle.tr_types.specs.World.{World, Phase, Idle, Runs, stepped}
 use Rattle.tr_types.specs.declared.action.Action.TheVariants.{Store, Kernel}
@@ -57,10 +57,15 @@ abbrev pub LeavesWindows : World → Entry → Type 0
 LeavesWindows w e = IsWindowed (stepped w e) × FindsShut w e
 
 -- The entry may change the word at an address: it is a store to that word, by a thread to which the rights permit it at
--- that moment, or a kernel call that gives pages, of which it changes the owners alone.
+-- that moment, or a kernel call among whose stores, by its row, is one to that word.
+abbrev pub IsStoreTo : ℕ → Inner → Type 0
+IsStoreTo addr (inner.Store at value) = at / 8 ≡ addr / 8
+IsStoreTo addr step = ⊥
+
 abbrev pub MayChange : Bus → Entry → ℕ → Type 0
 MayChange bus (entry.Act thread now mark (Store at word) Done) addr = (at / 8 ≡ addr / 8) × (store_refusal bus thread at ≡ None)
-MayChange bus (entry.Act thread now mark (Kernel (Enlarge id count)) (Kern (Pages pages))) addr = (page : ℕ) × Contains pages page × (owner_word (pages_of bus.words) page / 8 ≡ addr / 8)
+MayChange bus (entry.Act thread now mark (Kernel kcall) (Kern answer)) addr =
+    (step : Inner) × Contains (inner_of (callers_of bus) bus.words bus.holders thread now kcall) step × IsStoreTo addr step
 MayChange bus (entry.Stray thread at word Done) addr = (at / 8 ≡ addr / 8) × (store_refusal bus thread at ≡ None)
 MayChange bus e addr = ⊥
 

@@ -2,7 +2,8 @@
 use Rattle.std.proofs.Common.{◌≡◌, ℕ, ◌<◌, ◌≤◌, List, [], ◌∷◌, length, take, Contains, true, refl, sym, ap, subst, ◌∙◌, arith}
 use Rattle.pm_words.specs.Word.{Word}
 use Rattle.zo_layout.specs.Layout.{bucket_of, page_at, root_control, root_page}
-use Rattle.tr_types.specs.KernelView.{pages_of, free_pages, given_to}
+use Rattle.tr_types.specs.KernelView.{pages_of, free_pages}
+use Rattle.tr_types.specs.RootCoffer.{IsGivenTo}
 use Rattle.tr_types.specs.Tree.{Member}
 use Rattle.tr_types.specs.Denotes.{value, Chain}
 use Rattle.tr_types.specs.World.{Phase, Runs, NotYet}
@@ -21,7 +22,7 @@ use Rattle.zo_ops.specs.declared.plan.Spot.{Spot}
 use Rattle.zo_ops.specs.declared.plan.Spot.TheVariants.{Free, Fresh}
 use Rattle.tr_types.specs.Commands.{IsCommand}
 use Rattle.zo_ops.specs.Laid.{IsLaid, IsFresh, entries_in}
-use Rattle.zo_ops.specs.Permitted.{Answers}
+use Rattle.zo_ops.specs.Permitted.{Answers, Leaves}
 use Rattle.zo_ops.specs.Knows.{Ground, Links, Goes, NextGives, StageKnows, IsSpot, AreDrawn, name_of, spot_pages}
 use Rattle.zo_ops.proofs.ReachLaws.{may_store}
 use Rattle.zo_ops.proofs.ReplySteps.{change_is_due, few_pages}
@@ -60,18 +61,15 @@ two_pages (p ∷ []) le = absurd (omega arith)
 two_pages (p ∷ q ∷ free) le = (p, q, refl)
 
 module _ (coffer : Coffer) (command : Command) (head : ℕ) (spot : Spot) (words : List Word) (tree : List Member) (k : Links coffer command head words tree) (at : IsSpot words k.ground.frees spot) (valid : IsCommand command) where
-  module _ (new : List Word) (enough : spot_pages spot ≤ length (free_pages words)) (is : new ≡ given_to 1 (take (spot_pages spot) (free_pages words)) words) where
-    abbrev given : List Word
-    given = given_to 1 (take (spot_pages spot) (free_pages words)) words
-
-    enlarged : IsLaid given k.ground.roles k.ground.files k.ground.frees × ((page : ℕ) → Contains (take (spot_pages spot) (free_pages words)) page → IsFresh given k.ground.roles page) × (pages_of given ≡ pages_of words) × (length given ≡ length words)
-    enlarged = laid_enlarge words k.ground.roles k.ground.files k.ground.frees (spot_pages spot) k.ground.laid
+  module _ (new : List Word) (enough : spot_pages spot ≤ length (free_pages words)) (leaves : IsGivenTo 1 (take (spot_pages spot) (free_pages words)) words new) where
+    enlarged : IsLaid new k.ground.roles k.ground.files k.ground.frees × ((page : ℕ) → Contains (take (spot_pages spot) (free_pages words)) page → IsFresh new k.ground.roles page) × (pages_of new ≡ pages_of words) × (length new ≡ length words)
+    enlarged = laid_enlarge words new k.ground.roles k.ground.files k.ground.frees (spot_pages spot) k.ground.laid leaves
 
     laid : IsLaid new k.ground.roles k.ground.files k.ground.frees
-    laid = subst (λ w. IsLaid w k.ground.roles k.ground.files k.ground.frees) (sym is) enlarged.0
+    laid = enlarged.0
 
     pages : pages_of new ≡ pages_of words
-    pages = ap pages_of is ∙ enlarged.2
+    pages = enlarged.2
 
     abbrev ground : Ground coffer new tree
     ground = record {
@@ -100,7 +98,7 @@ module _ (coffer : Coffer) (command : Command) (head : ℕ) (spot : Spot) (words
         (one.0, one.1, fresh_of one.0 (subst (λ (s : Spot). Contains (take (spot_pages s) (free_pages words)) one.0) same (subst (λ (l : List ℕ). Contains l one.0) (sym one.1) (contains_here one.0 []))))
       where
         fresh_of : (page : ℕ) → Contains (take (spot_pages spot) (free_pages words)) page → IsFresh new k.ground.roles page
-        fresh_of page c = subst (λ w. IsFresh w k.ground.roles page) (sym is) (enlarged.1 page c)
+        fresh_of page c = enlarged.1 page c
     drawn_by (Fresh first) same = let two = two_pages (free_pages words) (subst (λ s. spot_pages s ≤ length (free_pages words)) (sym same) enough) in (
       two.0,
       two.1,
@@ -111,7 +109,7 @@ module _ (coffer : Coffer) (command : Command) (head : ℕ) (spot : Spot) (words
     )
       where
         fresh_of : (page : ℕ) → Contains (take (spot_pages spot) (free_pages words)) page → IsFresh new k.ground.roles page
-        fresh_of page c = subst (λ w. IsFresh w k.ground.roles page) (sym is) (enlarged.1 page c)
+        fresh_of page c = enlarged.1 page c
 
     spot_by : (s : Spot) → IsSpot words k.ground.frees s → IsSpot new k.ground.frees s
     spot_by (Free entry nxt) (rest, frees, n) = (rest, frees, n ∙ sym (same_first words new _ _ rest (tail words (subst (Chain words _) frees k.ground.laid.free_chain)) (tail new (subst (Chain new _) frees laid.free_chain))))
@@ -121,52 +119,50 @@ module _ (coffer : Coffer) (command : Command) (head : ℕ) (spot : Spot) (words
     spot_by (Fresh first) none = none
 
   -- what the kernel answers, and what is known then
-  answered : (answer : KernAnswer) → Answers words (Kernel (Enlarge 1 (spot_pages spot))) (Kern answer) → Goes (StageKnows coffer command (stage.Drawing head spot)) Plain (Kernel (Enlarge 1 (spot_pages spot))) words tree (Runs command true true NotYet) (Kern answer)
-  answered (kern.Pages pages') (one, least, most, (enough, are)) = record {
+  answered : (answer : KernAnswer) (new : List Word) → Answers words (Kernel (Enlarge 1 (spot_pages spot))) (Kern answer) → Leaves (Kernel (Enlarge 1 (spot_pages spot))) (Kern answer) words new → Goes (StageKnows coffer command (stage.Drawing head spot)) Plain (Kernel (Enlarge 1 (spot_pages spot))) words new tree (Runs command true true NotYet) (Kern answer)
+  answered (kern.Pages pages') new (one, least, most, (enough, are)) leaves = record {
     legal = (refl, refl, few_pages spot, change_is_due coffer command head words tree k valid);
-    denotes = ground_denotes coffer _ tree (ground new enough is);
-    knows = (links new enough is, spot_by new enough is spot at, subst (AreDrawn new k.ground.roles spot) (sym are) (drawn_by new enough is spot refl), refl);
+    denotes = ground_denotes coffer new tree (ground new enough gives);
+    knows = (links new enough gives, spot_by new enough gives spot at, subst (AreDrawn new k.ground.roles spot) (sym are) (drawn_by new enough gives spot refl), refl);
   }
     where
-      new : List Word
-      new = given_to 1 pages' words
-
-      is : new ≡ given_to 1 (take (spot_pages spot) (free_pages words)) words
-      is = ap (λ l. given_to 1 l words) are
-  answered (kern.NoPages asked free) (one, least, most, (few, asks, frees)) = record {
+      gives : IsGivenTo 1 (take (spot_pages spot) (free_pages words)) words new
+      gives = subst (λ l. IsGivenTo 1 l words new) are leaves
+  answered (kern.NoPages asked free) new (one, least, most, (few, asks, frees)) leaves = subst (λ w. Goes (StageKnows coffer command (stage.Drawing head spot)) Plain (Kernel (Enlarge 1 (spot_pages spot))) words w tree (Runs command true true NotYet) (Kern (kern.NoPages asked free))) (sym leaves) (record {
     legal = (refl, refl, few_pages spot, change_is_due coffer command head words tree k valid);
     denotes = ground_denotes coffer words tree k.ground;
     knows = (k, asks, refl);
-  }
-  answered kern.Done a = absurd a.3
-  answered kern.Same a = absurd a.3
-  answered (kern.Found first second) a = absurd a.3
-  answered (kern.Mapped mapped) a = absurd a.3
-  answered (kern.Made id) a = absurd a.3
-  answered kern.NotHeld a = absurd a.3
-  answered kern.BadPath a = absurd a.3
-  answered (kern.Denied right id len) a = absurd a.3
-  answered (kern.Quarantined id len) a = absurd a.3
-  answered (kern.InUse thread id len) a = absurd a.3
-  answered (kern.NoKey id len) a = absurd a.3
-  answered (kern.NotYours page) a = absurd a.3
-  answered (kern.GuardFailed addr word) a = absurd a.3
-  answered (kern.LinkDiffers addr word) a = absurd a.3
-  answered kern.Taken a = absurd a.3
-  answered kern.TooMany a = absurd a.3
-  answered kern.NoCoffer a = absurd a.3
-  answered kern.NotEmptyList a = absurd a.3
-  answered kern.BadCount a = absurd a.3
-  answered kern.NoMemory a = absurd a.3
+  })
+  answered kern.Done new a leaves = absurd a.3
+  answered kern.Same new a leaves = absurd a.3
+  answered (kern.Found first second) new a leaves = absurd a.3
+  answered (kern.Mapped mapped) new a leaves = absurd a.3
+  answered (kern.Made id) new a leaves = absurd a.3
+  answered kern.NotHeld new a leaves = absurd a.3
+  answered kern.BadPath new a leaves = absurd a.3
+  answered (kern.Denied right id len) new a leaves = absurd a.3
+  answered (kern.Quarantined id len) new a leaves = absurd a.3
+  answered (kern.InUse thread id len) new a leaves = absurd a.3
+  answered (kern.NoKey id len) new a leaves = absurd a.3
+  answered (kern.NotYours page) new a leaves = absurd a.3
+  answered (kern.GuardFailed addr word) new a leaves = absurd a.3
+  answered (kern.LinkDiffers addr word) new a leaves = absurd a.3
+  answered kern.Taken new a leaves = absurd a.3
+  answered kern.TooMany new a leaves = absurd a.3
+  answered kern.NoCoffer new a leaves = absurd a.3
+  answered kern.NotEmptyList new a leaves = absurd a.3
+  answered kern.BadCount new a leaves = absurd a.3
+  answered kern.NoMemory new a leaves = absurd a.3
 
-  kernel_only : (P : Answer → Type 0) → ((answer : KernAnswer) → Answers words (Kernel (Enlarge 1 (spot_pages spot))) (Kern answer) → P (Kern answer)) → (answer : Answer) → Answers words (Kernel (Enlarge 1 (spot_pages spot))) answer → P answer
-  kernel_only P p (WordIs x) a = absurd a
-  kernel_only P p Done a = absurd a
-  kernel_only P p (Fault f) a = absurd a
-  kernel_only P p (Kern answer) a = p answer a
+  kernel_only : (P : Answer → List Word → Type 0) → ((answer : KernAnswer) (new : List Word) → Answers words (Kernel (Enlarge 1 (spot_pages spot))) (Kern answer) → Leaves (Kernel (Enlarge 1 (spot_pages spot))) (Kern answer) words new → P (Kern answer) new)
+      → (answer : Answer) (new : List Word) → Answers words (Kernel (Enlarge 1 (spot_pages spot))) answer → Leaves (Kernel (Enlarge 1 (spot_pages spot))) answer words new → P answer new
+  kernel_only P p (WordIs x) new a leaves = absurd a
+  kernel_only P p Done new a leaves = absurd a
+  kernel_only P p (Fault f) new a leaves = absurd a
+  kernel_only P p (Kern answer) new a leaves = p answer new a leaves
 
   pub ask_gives : (phase : Phase) → phase ≡ Runs command true true NotYet → NextGives coffer command (next.Act (Kernel (Enlarge 1 (spot_pages spot))) (stage.Drawing head spot)) words tree phase
   ask_gives phase is = record {
     reachable = (may_store command k.create, (refl, some_page spot, omega (arith, few_pages spot)));
-    goes = kernel_only _ (λ answer a. subst (λ p. Goes (StageKnows coffer command (stage.Drawing head spot)) Plain (Kernel (Enlarge 1 (spot_pages spot))) words tree p (Kern answer)) (sym is) (answered answer a));
+    goes = kernel_only (λ answer new. Goes (StageKnows coffer command (stage.Drawing head spot)) Plain (Kernel (Enlarge 1 (spot_pages spot))) words new tree phase answer) (λ answer new a leaves. subst (λ p. Goes (StageKnows coffer command (stage.Drawing head spot)) Plain (Kernel (Enlarge 1 (spot_pages spot))) words new tree p (Kern answer)) (sym is) (answered answer new a leaves));
   }

@@ -3,11 +3,12 @@ use Rattle.std.proofs.Common.{◌≡◌, ◌⊎◌, inl, inr, ℕ, ◌/◌, ◌%
 use Rattle.pm_words.specs.Word.{Word}
 use Rattle.pm_words.specs.Memory.{IsPages}
 use Rattle.zo_layout.specs.Layout.{page_at, word_of, kernel_pages, root_control, root_page, bucket_head, first_free_entry, pool_head, entry_target, file_map, name_length, name_word}
-use Rattle.tr_types.specs.KernelView.{pages_of, owner_of, free_pages, given_to}
+use Rattle.tr_types.specs.KernelView.{pages_of, owner_of, free_pages}
+use Rattle.tr_types.specs.RootCoffer.{IsGivenTo}
 use Rattle.tr_types.specs.Denotes.{value, IsCofferPage, IsPlace, Chain, IsNamed}
 use Rattle.zo_ops.specs.Laid.{Role, FileAt, IsPlaceOf, HasFile, entries_in, IsBuilt, AreFree, IsLaid, IsFresh}
 use Rattle.zo_ops.proofs.DenoteLaws.{file_of_entry}
-use Rattle.zo_ops.proofs.GivenLaws.{IsGiven, free_is, given_free, pages_same}
+use Rattle.zo_ops.proofs.GivenLaws.{IsGiven, free_is, given_all, pages_same}
 use Rattle.zo_ops.proofs.Members.{contains_here, contains_there, contains_cases, contains_none}
 
 -- the address of a word past the kernel's pages
@@ -44,7 +45,7 @@ module _ (words new : List Word) (given : IsGiven words new) where
   kept_at at past = ap (λ (n : ℕ). value new (at n)) count ∙ given.kept (at (pages_of words)) past.0 past.1
 
   coffer_page : (page : ℕ) → IsCofferPage words page → IsCofferPage new page
-  coffer_page page is = record { inside = subst (λ (n : ℕ). page < n) (sym count) is.inside; owned = given.owned page is.owned }
+  coffer_page page is = record { inside = subst (λ (n : ℕ). page < n) (sym count) is.inside; owned = given.owned page is.inside is.owned }
 
   past_root : (page : ℕ) → root_page (pages_of words) < page → root_page (pages_of new) < page
   past_root page past = subst (λ (n : ℕ). root_page n < page) (sym count) past
@@ -133,9 +134,9 @@ module _ (words new : List Word) (given : IsGiven words new) where
     free = free_kept roles files frees laid.free;
     pool = kept_at (λ n. pool_head (page_at (root_control n)) 0) (omega arith, omega arith) ∙ laid.pool;
     spare = λ page lt nobody.
-        let was = laid.spare page (subst (λ (n : ℕ). page < n) count lt) (given.free page nobody) in
+        let was = laid.spare page (subst (λ (n : ℕ). page < n) count lt) (given.free page (subst (λ (n : ℕ). page < n) count lt) nobody) in
         (was.0, past_root page was.1);
-    blank = λ page i lt nobody low. blank_kept roles files frees laid page i (subst (λ (n : ℕ). page < n) count lt) (given.free page nobody) low;
+    blank = λ page i lt nobody low. blank_kept roles files frees laid page i (subst (λ (n : ℕ). page < n) count lt) (given.free page (subst (λ (n : ℕ). page < n) count lt) nobody) low;
   }
 
   -- such a page that is the coffer's now is fresh
@@ -150,12 +151,10 @@ module _ (words new : List Word) (given : IsGiven words new) where
       }
 
 -- a coffer that grows is laid as it was, and the pages that it was given are fresh
-pub laid_enlarge : (words : List Word) (roles : ℕ → Role) (files : List FileAt) (frees : List ℕ) (count : ℕ) → IsLaid words roles files frees
-    → let new = given_to 1 (take count (free_pages words)) words in
-    IsLaid new roles files frees × ((page : ℕ) → Contains (take count (free_pages words)) page → IsFresh new roles page) × (pages_of new ≡ pages_of words) × (length new ≡ length words)
-laid_enlarge words roles files frees count laid =
-    let new = given_to 1 (take count (free_pages words)) words in
-    let all = given_free words count laid.built.size in
+pub laid_enlarge : (words new : List Word) (roles : ℕ → Role) (files : List FileAt) (frees : List ℕ) (count : ℕ) → IsLaid words roles files frees → IsGivenTo 1 (take count (free_pages words)) words new
+    → IsLaid new roles files frees × ((page : ℕ) → Contains (take count (free_pages words)) page → IsFresh new roles page) × (pages_of new ≡ pages_of words) × (length new ≡ length words)
+laid_enlarge words new roles files frees count laid leaves =
+    let all = given_all words new roles files frees count laid leaves in
     let given = all.is_given in (
       laid_kept words new given roles files frees laid,
       λ page has.

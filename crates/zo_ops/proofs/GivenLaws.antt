@@ -1,14 +1,17 @@
 -- What pages that are given to the root coffer change: their owners, and nothing in the coffer's own pages.
-use Rattle.std.proofs.Common.{◌≡◌, ◌≢◌, ◌⊎◌, inl, inr, ℕ, zero, suc, ◌+◌, ◌/◌, ◌%◌, ◌<◌, ◌≤◌, Bool, true, false, cond, List, [], ◌∷◌, length, take, filter, fold, All, Contains, refl, sym, ap, subst, ◌∙◌, arith, eqb-true, nat_eq}
+use Rattle.std.proofs.Common.{◌≡◌, ◌≢◌, ◌⊎◌, inl, inr, ℕ, zero, suc, ◌+◌, ◌/◌, ◌%◌, ◌<◌, ◌≤◌, Bool, true, false, cond, List, [], ◌∷◌, length, take, filter, fold, get_or, All, Contains, refl, sym, ap, subst, ◌∙◌, arith, eqb-true, nat_eq}
 use Rattle.std.specs.List.{range_with_len}
-use Rattle.std.proofs.lemmas.Bool.{cases_eq}
-use Rattle.std.proofs.lemmas.List.Elements.{All-head, All-tail, All-take, All-filter, All-contains, Contains-get_or, filter_passes}
+use Rattle.std.proofs.lemmas.Bool.{cases_eq, cases_lt}
+use Rattle.std.proofs.lemmas.List.{get_or_past}
+use Rattle.std.proofs.lemmas.List.Elements.{All-nil, All-cons, All-weaker, All-head, All-tail, All-take, All-filter, All-contains, Contains-get_or, filter_passes}
 use Rattle.std.proofs.lemmas.List.FromFn.{length-range_with_len, get_or-range_with_len}
-use Rattle.pm_words.specs.Word.{Word}
+use Rattle.pm_words.specs.Word.{Word, settled}
 use Rattle.pm_words.specs.Memory.{store_at, IsPages}
 use Rattle.pm_words.proofs.WordLemmas.{length_store_at, word_at_other}
-use Rattle.zo_layout.specs.Layout.{page_at, kernel_pages, owner_word}
-use Rattle.tr_types.specs.KernelView.{pages_of, owner_of, free_pages, given_to}
+use Rattle.zo_layout.specs.Layout.{page_at, word_of, kernel_pages, owner_word}
+use Rattle.tr_types.specs.KernelView.{pages_of, owner_of, free_pages}
+use Rattle.tr_types.specs.RootCoffer.{IsGivenTo}
+use Rattle.zo_ops.specs.Laid.{Role, FileAt, IsLaid}
 use Rattle.tr_types.specs.Denotes.{value}
 use Rattle.tr_types.proofs.FreePages.{pages_are, size_stored, owner_apart, owner_kept, owner_given}
 use Rattle.zo_ops.proofs.Members.{contains_cases, contains_none}
@@ -71,76 +74,92 @@ distinct_two words p q is same =
 pub record IsGiven (words new : List Word) : Type 0 where
   pub len : length new ≡ length words
   pub kept : (addr : ℕ) → page_at (kernel_pages (pages_of words)) ≤ addr → addr % 8 ≡ 0 → value new addr ≡ value words addr
-  pub owned : (page : ℕ) → owner_of words page ≡ 1 → owner_of new page ≡ 1
-  pub free : (page : ℕ) → owner_of new page ≡ 0 → owner_of words page ≡ 0
+  pub owned : (page : ℕ) → page < pages_of words → owner_of words page ≡ 1 → owner_of new page ≡ 1
+  pub free : (page : ℕ) → page < pages_of words → owner_of new page ≡ 0 → owner_of words page ≡ 0
 
 -- a memory of the same length has the same number of pages
 pub pages_same : (words new : List Word) → length new ≡ length words → pages_of new ≡ pages_of words
 pages_same words new len = ap (λ (n : ℕ). n / 512) len
-
-given_none : (words : List Word) → IsGiven words words
-given_none words = record { len = refl; kept = λ addr low aligned. refl; owned = λ page is. is; free = λ page is. is }
-
-given_then : (words middle new : List Word) → IsGiven words middle → IsGiven middle new → IsGiven words new
-given_then words middle new one two = record {
-  len = two.len ∙ one.len;
-  kept = λ addr low aligned.
-      two.kept addr (subst (λ (n : ℕ). page_at (kernel_pages n) ≤ addr) (sym (pages_same words middle one.len)) low) aligned ∙ one.kept addr low aligned;
-  owned = λ page is. two.owned page (one.owned page is);
-  free = λ page is. one.free page (two.free page is);
-}
-
--- the memory after one page is given, where the owner table is that of this number of pages
-abbrev with_one : ℕ → List Word → ℕ → List Word
-with_one count words given = store_at (owner_word count given) 1 words
-
-module _ (count : ℕ) (words : List Word) (given : ℕ) (size : IsPages (length words) count) (lt : given < count) where
-  is_owner : owner_of (with_one count words given) given ≡ 1
-  is_owner = owner_given words count given 1 size lt
-
-  other_owner : (page : ℕ) → page ≢ given → owner_of (with_one count words given) page ≡ owner_of words page
-  other_owner page ne = owner_kept words count page (owner_word count given) 1 size (omega arith) (owner_apart count page given ne)
-
-  still_owned : (page : ℕ) → (page ≡ given) ⊎ (page ≡ given → ⊥) → owner_of words page ≡ 1 → owner_of (with_one count words given) page ≡ 1
-  still_owned page (inl same) is = ap (λ (p : ℕ). owner_of (with_one count words given) p) same ∙ is_owner
-  still_owned page (inr ne) is = other_owner page ne ∙ is
-
-  still_free : (page : ℕ) → (page ≡ given) ⊎ (page ≡ given → ⊥) → owner_of (with_one count words given) page ≡ 0 → owner_of words page ≡ 0
-  still_free page (inl same) is = let owner = ap (λ (p : ℕ). owner_of (with_one count words given) p) same ∙ is_owner in absurd (omega arith)
-  still_free page (inr ne) is = sym (other_owner page ne) ∙ is
-
-  given_one : IsGiven words (with_one count words given)
-  given_one = record {
-    len = length_store_at (owner_word count given) 1 words;
-    kept = λ addr low aligned.
-        let past : page_at (kernel_pages count) ≤ addr = subst (λ (n : ℕ). page_at (kernel_pages n) ≤ addr) (pages_are words count size.whole) low in
-        ap (λ (w : Word). w.present) (word_at_other (owner_word count given) addr 1 words (omega arith) aligned (λ e. omega arith));
-    owned = λ page is. still_owned page (cases_eq page given) is;
-    free = λ page is. still_free page (cases_eq page given) is;
-  }
 
 -- all of a list of pages
 pub record AreGiven (words : List Word) (pages : List ℕ) (new : List Word) : Type 0 where
   pub is_given : IsGiven words new
   pub owners : (page : ℕ) → Contains pages page → owner_of new page ≡ 1
 
-given_all : (count : ℕ) (pages : List ℕ) (words : List Word) → IsPages (length words) count → All (λ page. page < count) pages → AreGiven words pages (fold (with_one count) words pages)
-given_all count [] words size inside = record { is_given = given_none words; owners = λ page has. absurd (contains_none page has) }
-given_all count (first ∷ pages) words size inside =
-    let lt = All-head (λ page. page < count) first pages inside in
-    let now = with_one count words first in
-    let one = given_one count words first size lt in
-    let rest = given_all count pages now (size_stored words count (owner_word count first) 1 size) (All-tail (λ page. page < count) first pages inside) in
-    record {
-      is_given = given_then words now (fold (with_one count) now pages) one rest.is_given;
-      owners = λ page has. elim (contains_cases first pages page has) [
-        | inl same ↦ rest.is_given.owned page (ap (λ (p : ℕ). owner_of now p) (sym same) ∙ is_owner count words first size lt)
-        | inr later ↦ rest.owners page later
-      ];
-    }
+-- a number is one of some, or none of them
+among : (pages : List ℕ) (page : ℕ) → Contains pages page ⊎ All (λ p. page ≢ p) pages
+among [] page = inr (All-nil (λ p. page ≢ p))
+among (p ∷ pages) page = by (cases_eq page p) (among pages page)
+  where
+    by : (page ≡ p) ⊎ (page ≢ p) → Contains pages page ⊎ All (λ q. page ≢ q) pages → Contains (p ∷ pages) page ⊎ All (λ q. page ≢ q) (p ∷ pages)
+    by (inl same) rest = inl (zero, omega arith, sym same)
+    by (inr ne) (inl (k, lt, at)) = inl (suc k, omega arith, at)
+    by (inr ne) (inr away) = inr (All-cons (λ q. page ≢ q) p pages ne away)
 
--- the pages that a memory gives
-pub given_free : (words : List Word) (count : ℕ) → IsPages (length words) (pages_of words) → AreGiven words (take count (free_pages words)) (given_to 1 (take count (free_pages words)) words)
-given_free words count size =
-    given_all (pages_of words) (take count (free_pages words)) words size
-    (λ k d lt. (free_is words count _ (Contains-get_or (take count (free_pages words)) k d lt)).0)
+module _ (words new : List Word) (roles : ℕ → Role) (files : List FileAt) (frees : List ℕ) (count : ℕ) (laid : IsLaid words roles files frees) (given : IsGivenTo 1 (take count (free_pages words)) words new) where
+  abbrev pages : List ℕ
+  pages = take count (free_pages words)
+
+  same_count : pages_of new ≡ pages_of words
+  same_count = pages_same words new given.len
+
+  -- each given page is past the kernel's
+  past_kernel : (page : ℕ) → Contains pages page → (kernel_pages (pages_of words) ≤ page) × (page < pages_of words)
+  past_kernel page has =
+      let is = free_is words count page has in
+      let past = (laid.spare page is.0 is.1).1 in
+      (omega (arith, past), is.0)
+
+  all_past : All (λ page. (kernel_pages (pages_of words) ≤ page) × (page < pages_of words)) pages
+  all_past k d lt = past_kernel (get_or pages k d) (Contains-get_or pages k d lt)
+
+  owner_new : (page : ℕ) → owner_of new page ≡ value new (owner_word (pages_of words) page)
+  owner_new page = ap (λ (n : ℕ). value new (owner_word n page)) same_count
+
+  given_owner : (page : ℕ) → Contains pages page → owner_of new page ≡ 1
+  given_owner page has = owner_new page ∙ All-contains (λ p. value new (owner_word (pages_of words) p) ≡ 1) pages page given.owned has
+
+  -- the owner's word of another page stays
+  other_owner : (page : ℕ) → page < pages_of words → All (λ p. page ≢ p) pages → owner_of new page ≡ owner_of words page
+  other_owner page lt away =
+      let whole = laid.built.size.whole in
+      owner_new page
+      ∙ given.others (owner_word (pages_of words) page) (record { inside = record { aligned = omega arith; inside = omega (arith, whole, lt) }; outside = λ from. omega (arith, whole) })
+      (All-weaker (λ p. page ≢ p) (λ p. owner_word (pages_of words) p ≢ owner_word (pages_of words) page) (λ p ne e. ne (omega (arith, e))) pages away)
+      (All-weaker (λ p. (kernel_pages (pages_of words) ≤ p) × (p < pages_of words)) (λ p. owner_word (pages_of words) page / 4096 ≢ p) (λ p b e. let past = b.0 in omega (arith, e, past, lt)) pages all_past)
+
+  owned_by : (page : ℕ) → page < pages_of words → Contains pages page ⊎ All (λ p. page ≢ p) pages → owner_of words page ≡ 1 → owner_of new page ≡ 1
+  owned_by page lt (inl has) is = given_owner page has
+  owned_by page lt (inr away) is = other_owner page lt away ∙ is
+
+  free_by : (page : ℕ) → page < pages_of words → Contains pages page ⊎ All (λ p. page ≢ p) pages → owner_of new page ≡ 0 → owner_of words page ≡ 0
+  free_by page lt (inl has) is = let one = given_owner page has in absurd (omega (arith, one, is))
+  free_by page lt (inr away) is = sym (other_owner page lt away) ∙ is
+
+  -- past the kernel's pages nothing changes: the given pages were zeros
+  kept_by : (addr : ℕ) → page_at (kernel_pages (pages_of words)) ≤ addr → addr % 8 ≡ 0 → (addr / 8 < length words) ⊎ (length words ≤ addr / 8) → Contains pages (addr / 4096) ⊎ All (λ p. addr / 4096 ≢ p) pages → value new addr ≡ value words addr
+  kept_by addr low aligned (inr out) where_is =
+      let len = given.len in
+      ap (λ (w : Word). w.present) (get_or_past new (addr / 8) (settled 0) (omega (arith, len, out)) ∙ sym (get_or_past words (addr / 8) (settled 0) out))
+  kept_by addr low aligned (inl lt) (inl has) =
+      let is = free_is words count (addr / 4096) has in
+      let i = addr % 4096 / 8 in
+      let at : word_of (page_at (addr / 4096)) i ≡ addr = omega (arith, aligned) in
+      ap (value new) (sym at) ∙ All-contains (λ page. (j : ℕ) → j < 512 → value new (word_of (page_at page) j) ≡ 0) pages (addr / 4096) given.zeroed has i (omega arith)
+      ∙ sym (ap (value words) (sym at) ∙ laid.blank (addr / 4096) i is.0 is.1 (omega arith))
+  kept_by addr low aligned (inl lt) (inr away) =
+      let whole = laid.built.size.whole in
+      given.others addr (record { inside = record { aligned = aligned; inside = lt }; outside = λ from. omega (arith, low, whole) })
+      (All-weaker (λ p. (kernel_pages (pages_of words) ≤ p) × (p < pages_of words)) (λ p. owner_word (pages_of words) p ≢ addr) (λ p b e. let below = b.1 in omega (arith, e, below, low)) pages all_past)
+      away
+
+  pub given_all : AreGiven words pages new
+  given_all = record {
+    is_given = record {
+      len = given.len;
+      kept = λ addr low aligned. kept_by addr low aligned (cases_lt (addr / 8) (length words)) (among pages (addr / 4096));
+      owned = λ page lt. owned_by page lt (among pages page);
+      free = λ page lt. free_by page lt (among pages page);
+    };
+    owners = given_owner;
+  }

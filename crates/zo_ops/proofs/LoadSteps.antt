@@ -12,7 +12,7 @@ use Rattle.tr_types.specs.declared.entry.Mark.TheVariants.{Plain}
 use Rattle.zo_ops.specs.declared.call.Coffer.{Coffer}
 use Rattle.zo_ops.specs.declared.call.Next.TheVariants as next
 use Rattle.zo_ops.specs.declared.call.Stage.{Stage}
-use Rattle.zo_ops.specs.Permitted.{Answers}
+use Rattle.zo_ops.specs.Permitted.{Answers, Leaves}
 use Rattle.zo_ops.specs.Reach.{IsCofferWord}
 use Rattle.zo_ops.specs.Knows.{Ground, Goes, NextGives, StageKnows, IsRunning}
 use Rattle.zo_ops.proofs.DenoteLaws.{built_denotes}
@@ -22,15 +22,15 @@ pub ground_denotes : (coffer : Coffer) (words : List Word) (tree : List Member) 
 ground_denotes coffer words tree k = subst (Denotes words) (sym k.tree_is) (built_denotes words k.roles k.files k.laid.built)
 
 module _ (coffer : Coffer) (command : Command) (addr : ℕ) (stage : Stage) (words : List Word) (tree : List Member) (loaded drained : Bool) (reached : IsCofferWord words addr) (denotes : Denotes words tree) where
-  loaded_goes : (phase : Phase) → phase ≡ Runs command loaded drained NotYet → (knows : StageKnows coffer command stage (WordIs (value words addr)) words tree (Runs command true (drained_after (pool_of words) drained (Load addr) (WordIs (value words addr))) NotYet)) → (answer : Answer) → Answers words (Load addr) answer → Goes (StageKnows coffer command stage) Plain (Load addr) words tree phase answer
-  loaded_goes phase is knows (WordIs x) a = subst (λ p. Goes (StageKnows coffer command stage) Plain (Load addr) words tree p (WordIs x)) (sym is) (record {
+  loaded_goes : (phase : Phase) → phase ≡ Runs command loaded drained NotYet → (knows : StageKnows coffer command stage (WordIs (value words addr)) words tree (Runs command true (drained_after (pool_of words) drained (Load addr) (WordIs (value words addr))) NotYet)) → (answer : Answer) (new : List Word) → Answers words (Load addr) answer → Leaves (Load addr) answer words new → Goes (StageKnows coffer command stage) Plain (Load addr) words new tree phase answer
+  loaded_goes phase is knows (WordIs x) new a same = subst (λ w. Goes (StageKnows coffer command stage) Plain (Load addr) words w tree phase (WordIs x)) (sym same) (subst (λ p. Goes (StageKnows coffer command stage) Plain (Load addr) words words tree p (WordIs x)) (sym is) (record {
     legal = tt;
     denotes = denotes;
     knows = subst (λ y. StageKnows coffer command stage (WordIs y) words tree (Runs command true (drained_after (pool_of words) drained (Load addr) (WordIs y)) NotYet)) (sym a.1) knows;
-  })
-  loaded_goes phase is knows Done a = absurd a
-  loaded_goes phase is knows (Fault kind) a = absurd a
-  loaded_goes phase is knows (Kern answer) a = absurd a
+  }))
+  loaded_goes phase is knows Done new a same = absurd a
+  loaded_goes phase is knows (Fault kind) new a same = absurd a
+  loaded_goes phase is knows (Kern answer) new a same = absurd a
 
   -- a load of any word
   pub load_gives : (phase : Phase) → phase ≡ Runs command loaded drained NotYet → ((p : Phase) → IsRunning command p → StageKnows coffer command stage (WordIs (value words addr)) words tree p) → NextGives coffer command (next.Act (Load addr) stage) words tree phase

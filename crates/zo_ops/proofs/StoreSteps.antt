@@ -23,7 +23,7 @@ use Rattle.zo_ops.specs.declared.call.Stage.TheVariants as stage
 use Rattle.zo_ops.specs.declared.plan.PlanRun.{PlanRun}
 use Rattle.tr_types.specs.Commands.{IsCommand}
 use Rattle.zo_ops.specs.Laid.{IsBuilt, stored_all}
-use Rattle.zo_ops.specs.Permitted.{Answers}
+use Rattle.zo_ops.specs.Permitted.{Answers, Leaves}
 use Rattle.zo_ops.specs.Reach.{IsCofferWord}
 use Rattle.zo_ops.specs.Knows.{Ground, Goes, NextGives, StageKnows, Prepares, IsCreate, name_of, spot_pairs, spot_entry}
 use Rattle.zo_ops.proofs.DenoteLaws.{built_denotes}
@@ -32,11 +32,11 @@ use Rattle.zo_ops.proofs.ReachLaws.{may_store}
 use Rattle.zo_ops.proofs.SpotLaws.{PlanKeeps, IsApart, spot_keeps, spot_commits, commit_reached, head_past, change_of}
 
 -- a permitted store is done
-done_only : (P : Answer → Type 0) (words : List Word) (addr x : ℕ) → P Done → (answer : Answer) → Answers words (Store addr x) answer → P answer
-done_only P words addr x p (WordIs y) a = absurd a
-done_only P words addr x p Done a = p
-done_only P words addr x p (Fault kind) a = absurd a
-done_only P words addr x p (Kern answer) a = absurd a
+done_only : (P : Answer → List Word → Type 0) (words : List Word) (addr x : ℕ) → P Done (store_at addr x words) → (answer : Answer) (new : List Word) → Answers words (Store addr x) answer → Leaves (Store addr x) answer words new → P answer new
+done_only P words addr x p (WordIs y) new a same = absurd a
+done_only P words addr x p Done new a same = subst (P Done) (sym same) p
+done_only P words addr x p (Fault kind) new a same = absurd a
+done_only P words addr x p (Kern answer) new a same = absurd a
 
 -- a store to any word but the head of the name's bucket is plain, and that one is the commit
 mark_plain : (dir : ℕ) (command : Command) (addr x : ℕ) → IsCreate command → addr ≢ bucket_head dir (bucket_of (name_of command)) → mark_of dir command (Store addr x) ≡ Plain
@@ -78,7 +78,7 @@ module _ (coffer : Coffer) (command : Command) (run after : PlanRun) (at : ℕ) 
   pub prepare_gives : (pair : ℕ × ℕ) → run.made < length run.plan.prepares.items → pair ≡ get_or run.plan.prepares.items run.made pair → NextGives coffer command (next.Act (Store pair.0 pair.1) (stage.Storing after at)) words tree phase
   prepare_gives pair lt is = record {
     reachable = (may_store command k.links.create, reached);
-    goes = done_only _ words pair.0 pair.1 (subst (λ m. Goes (StageKnows coffer command (stage.Storing after at)) m (Store pair.0 pair.1) words tree phase Done) (sym plain) (subst (λ p. Goes (StageKnows coffer command (stage.Storing after at)) Plain (Store pair.0 pair.1) words tree p Done) (sym k.phase_is) goes));
+    goes = done_only (λ answer new. Goes (StageKnows coffer command (stage.Storing after at)) (mark_of coffer.dir.at command (Store pair.0 pair.1)) (Store pair.0 pair.1) words new tree phase answer) words pair.0 pair.1 (subst (λ m. Goes (StageKnows coffer command (stage.Storing after at)) m (Store pair.0 pair.1) words (store_at pair.0 pair.1 words) tree phase Done) (sym plain) (subst (λ p. Goes (StageKnows coffer command (stage.Storing after at)) Plain (Store pair.0 pair.1) words (store_at pair.0 pair.1 words) tree p Done) (sym k.phase_is) goes));
   }
     where
       apart : IsApart k.base (bucket_head (dir_of k.base) (bucket_of (name_of command))) pair
@@ -97,7 +97,7 @@ module _ (coffer : Coffer) (command : Command) (run after : PlanRun) (at : ℕ) 
       few : after.made ≤ length after.plan.prepares.items
       few = omega (arith, same.made, ap length same.prepares)
 
-      goes : Goes (StageKnows coffer command (stage.Storing after at)) Plain (Store pair.0 pair.1) words tree (Runs command true true Given) Done
+      goes : Goes (StageKnows coffer command (stage.Storing after at)) Plain (Store pair.0 pair.1) words (store_at pair.0 pair.1 words) tree (Runs command true true Given) Done
       goes = record {
         legal = tt;
         denotes = subst (λ w. Denotes w tree) (sym stored) (subst (Denotes (stored_all (take after.made after.plan.prepares.items) k.base)) (sym k.links.ground.tree_is)
@@ -128,7 +128,7 @@ module _ (coffer : Coffer) (command : Command) (run after : PlanRun) (at : ℕ) 
   pub commit_gives : run.made ≡ length run.plan.prepares.items → NextGives coffer command (next.Act (Store run.plan.commit.0 run.plan.commit.1) (stage.Storing after at)) words tree phase
   commit_gives all = subst (λ (p : ℕ × ℕ). NextGives coffer command (next.Act (Store p.0 p.1) (stage.Storing after at)) words tree phase) (sym k.commit) (record {
     reachable = (may_store command k.links.create, reached);
-    goes = done_only _ words head_at entry (subst (λ m. Goes (StageKnows coffer command (stage.Storing after at)) m (Store head_at entry) words tree phase Done) (sym marked) (subst (λ p. Goes (StageKnows coffer command (stage.Storing after at)) Commit (Store head_at entry) words tree p Done) (sym k.phase_is) goes));
+    goes = done_only (λ answer new. Goes (StageKnows coffer command (stage.Storing after at)) (mark_of coffer.dir.at command (Store head_at entry)) (Store head_at entry) words new tree phase answer) words head_at entry (subst (λ m. Goes (StageKnows coffer command (stage.Storing after at)) m (Store head_at entry) words (store_at head_at entry words) tree phase Done) (sym marked) (subst (λ p. Goes (StageKnows coffer command (stage.Storing after at)) Commit (Store head_at entry) words (store_at head_at entry words) tree p Done) (sym k.phase_is) goes));
   })
     where
       head_at : ℕ
@@ -152,7 +152,7 @@ module _ (coffer : Coffer) (command : Command) (run after : PlanRun) (at : ℕ) 
       ground : Ground coffer (store_at head_at entry words) (tree_after tree command)
       ground = subst (λ w. Ground coffer (store_at head_at entry w) (tree_after tree command)) (sym whole) (spot_commits coffer command k.head k.spot k.pages k.base tree k.links valid k.spot_is k.drawn)
 
-      goes : Goes (StageKnows coffer command (stage.Storing after at)) Commit (Store head_at entry) words tree (Runs command true true Given) Done
+      goes : Goes (StageKnows coffer command (stage.Storing after at)) Commit (Store head_at entry) words (store_at head_at entry words) tree (Runs command true true Given) Done
       goes = record {
         legal = changes;
         denotes = ground_denotes coffer _ _ ground;

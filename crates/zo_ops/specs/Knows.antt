@@ -2,7 +2,6 @@
 use Rattle.std.specs.Prelude.{◌≡◌, ◌≢◌, ◌⊎◌, ℕ, ◌+◌, ◌<◌, ◌≤◌, List, [], ◌∷◌, length, take, codes, Contains, Bool, true, false}
 use Rattle.pm_words.specs.Word.{Word}
 use Rattle.zo_layout.specs.Layout.{page_at, bucket_head, bucket_of, entry_place, first_free_entry, file_map}
-use Rattle.tr_types.specs.Machine.{acted}
 use Rattle.tr_types.specs.Marks.{mark_of, name_in_root}
 use Rattle.tr_types.specs.Tree.{Member}
 use Rattle.tr_types.specs.Denotes.{value, control_of, dir_of, Denotes}
@@ -36,7 +35,7 @@ use Rattle.zo_ops.specs.declared.plan.Spot.{Spot}
 use Rattle.zo_ops.specs.declared.plan.Spot.TheVariants.{Free, Fresh}
 use Rattle.tr_types.specs.Commands.{IsCommand}
 use Rattle.zo_ops.specs.Laid.{Role, FileAt, tree_of, IsLaid, IsFresh, stored_all}
-use Rattle.zo_ops.specs.Permitted.{Answers}
+use Rattle.zo_ops.specs.Permitted.{Answers, Leaves}
 use Rattle.zo_ops.specs.Reach.{IsReachable}
 use Rattle.zo_ops.specs.Looking.{LookKnows, CountKnows}
 use Rattle.zo_ops.specs.Plans.{free_entry_pairs, fresh_page_pairs, commit_pair}
@@ -189,16 +188,16 @@ StageKnows coffer command stage.Over answer words tree phase = ⊥
 abbrev pub CallKnows : CallRun → Answer → List Word → List Member → Phase → Type 0
 CallKnows call answer words tree phase = StageKnows call.coffer call.command.now call.stage answer words tree phase
 
--- an action that was answered so: it is legal, the words denote the tree afterwards, and then this is known
-pub record Goes (Known : Answer → List Word → List Member → Phase → Type 0) (mark : Mark) (action : Action) (words : List Word) (tree : List Member) (phase : Phase) (answer : Answer) : Type 0 where
+-- an action that was answered so and left these words: it is legal, they denote the tree afterwards, and then this is known
+pub record Goes (Known : Answer → List Word → List Member → Phase → Type 0) (mark : Mark) (action : Action) (words new : List Word) (tree : List Member) (phase : Phase) (answer : Answer) : Type 0 where
   pub legal : IsLegalAct tree phase mark action answer
-  pub denotes : Denotes (acted action answer words) (changed mark answer tree phase)
-  pub knows : Known answer (acted action answer words) (changed mark answer tree phase) (phase_after (pool_of words) tree mark action answer phase)
+  pub denotes : Denotes new (changed mark answer tree phase)
+  pub knows : Known answer new (changed mark answer tree phase) (phase_after (pool_of words) tree mark action answer phase)
 
 -- an action that a call gives: it stays in the coffer's pages, and however it is answered, the call goes on
 pub record ActGives (Known : Answer → List Word → List Member → Phase → Type 0) (command : Command) (mark : Mark) (action : Action) (words : List Word) (tree : List Member) (phase : Phase) : Type 0 where
   pub reachable : IsReachable command words action
-  pub goes : (answer : Answer) → Answers words action answer → Goes Known mark action words tree phase answer
+  pub goes : (answer : Answer) (new : List Word) → Answers words action answer → Leaves action answer words new → Goes Known mark action words new tree phase answer
 
 -- a reply that a call gives is legal, and leaves the ground for the next call
 abbrev pub ReplyGives : Coffer → Reply → List Word → List Member → Phase → Type 0

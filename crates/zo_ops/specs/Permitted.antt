@@ -1,8 +1,8 @@
 -- What an action that the rights permit is answered, by the words alone.
 use Rattle.std.specs.Prelude.{◌≡◌, ℕ, ◌≤◌, List, length}
 use Rattle.pm_words.specs.Word.{Word}
-use Rattle.pm_words.specs.Memory.{word_at, IsAddress}
-use Rattle.tr_types.specs.Machine.{IsEnlarged}
+use Rattle.pm_words.specs.Memory.{word_at, store_at, IsAddress}
+use Rattle.tr_types.specs.RootCoffer.{IsEnlarged, EnlargeLeaves}
 use Rattle.tr_types.specs.declared.action.Action.{Action}
 use Rattle.tr_types.specs.declared.action.Action.TheVariants.{Load, Store, Kernel}
 use Rattle.tr_types.specs.declared.action.Answer.{Answer}
@@ -31,3 +31,9 @@ Answers words (Load addr) answer = IsLoaded words addr answer
 Answers words (Store addr word) answer = IsStored words addr answer
 Answers words (Kernel call) answer = IsCalled words call answer
 Answers words action answer = ⊥
+
+-- what it then leaves of the memory
+abbrev pub Leaves : Action → Answer → List Word → List Word → Type 0
+Leaves (Store addr word) Done old new = new ≡ store_at addr word old
+Leaves (Kernel (Enlarge id count)) (Kern answer) old new = EnlargeLeaves id old answer new
+Leaves action answer old new = new ≡ old

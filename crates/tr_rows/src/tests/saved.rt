@@ -58,6 +58,11 @@ fn word_outside(at: usize) -> u64 {
         0 => 6_436_300_633_531_568_724,
         8 => 1,
         16 => 64,
+        // the journal: no pair is committed, and those that made pages 40 and 41 the root coffer's stand there yet
+        4_160 => 16_704,
+        4_168 => 1,
+        4_176 => 16_712,
+        4_184 => 1,
         // the owners: of the kernel's 38 pages, the root coffer's two, the entry page and the page of `f`
         16_384..=16_680 => 65_535,
         16_688..=16_712 => 1,

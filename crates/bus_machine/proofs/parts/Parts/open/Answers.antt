@@ -1,16 +1,42 @@
-use Rattle.std.proofs.Common.{ℕ, ◌+◌, length, ap, replicate, ◌∙◌}
-use Rattle.bus_machine.proofs.Opened.{bus_opened, tied_opened, size_opened_in}
+use Rattle.std.proofs.Common.{◌≡◌, ℕ, List, Err, sym, ap, subst, ◌∙◌, replicate}
+use Rattle.std.proofs.lemmas.Result.{err_from_is_err_and}
+use Rattle.pm_words.specs.Word.{Word}
+use Rattle.tr_types.specs.KernelRules.{IsFirstFault}
+use Rattle.tr_types.specs.KernelCalls.{Callers}
+use Rattle.tr_types.proofs.Registers.{closed_pkrus_are}
+use Rattle.kern_calls.specs.Calls.{IsMounted}
+use Rattle.kern_calls.specs.declared.mount.MountFault.{MountFault}
+use Rattle.bus_machine.specs.Opening.{settled_words}
+use Rattle.bus_machine.proofs.Opened.{mounted_settled, small_opened, passed_bad, passed_refusal, passed_done}
 use Rattle.bus_machine.proofs.parts.Parts.open.Goals as goal
+
+pub returns-in_err-kernel-clause-bad : goal.returns-in_err-kernel-clause-bad
+returns-in_err-kernel-clause-bad c =
+    let p = err_from_is_err_and c.from_residual.result c.from_residual.ensures.1 in
+    passed_bad c.in_err-kernel.field-0.0 c.from_residual.result (IsFirstFault c.args.words) (p.1 ∙ ap (λ (f : MountFault). Err f) p.2) c.in_err-kernel.ensures.bad
+
+pub returns-in_err-kernel-clause-refuses : goal.returns-in_err-kernel-clause-refuses
+returns-in_err-kernel-clause-refuses c =
+    let p = err_from_is_err_and c.from_residual.result c.from_residual.ensures.1 in
+    passed_refusal c.in_err-kernel.field-0.0 c.from_residual.result (IsFirstFault c.args.words) (p.1 ∙ ap (λ (f : MountFault). Err f) p.2) c.in_err-kernel.ensures.refuses
 
 pub returns-clause-bus : goal.returns-clause-bus
 returns-clause-bus c =
-    let new = c.in_ok-new.ensures in
-    let pkrus = c.in_ok-pkrus.ensures.items_if_clones_equal (λ y e. e) ∙ ap (λ (x : ℕ). replicate 256 x) c.closed.ensures in
-    bus_opened c.args.words _ _ _ _ _ c.words.view_is c.requires c.new.ensures.items new.threads new.holders pkrus
+    let words = c.in-Ok.ensures.ok ∙ ap settled_words c.in_ok-kernel.ensures.ok in
+    let (callers, holders) = c.in_ok-kernel.ensures.fresh in
+    let pkrus = c.in-Ok-vec.ensures.items_if_clones_equal (λ y e. e) ∙ ap (λ (x : ℕ). replicate 256 x) c.closed.ensures ∙ sym closed_pkrus_are in
+    λ i. record { words = words i; processes = (callers i).processes; threads = (callers i).threads; holders = holders i; pkrus = pkrus i }
 
 pub returns-clause-tied : goal.returns-clause-tied
 returns-clause-tied c =
-    let new = c.in_ok-new.ensures in
-    let pkrus = c.in_ok-pkrus.ensures.items_if_clones_equal (λ y e. e) ∙ ap (λ (x : ℕ). replicate 256 x) c.closed.ensures in
-    let size = size_opened_in (length c.args.words) c.pages-pages.result c.pages-pages.ensures.pages c.pages-pages.ensures.size in
-    tied_opened _ c.args.words c.words.view_is c.requires size (ap (λ (n : ℕ). n + 1) c.root_page.ensures) c.new.ensures.items new.threads new.holders new.pages new.owners pkrus
+    let kernel = c.in_ok-kernel.kernel in
+    let (callers, holders) = c.in_ok-kernel.ensures.fresh in
+    let pkrus = c.in-Ok-vec.ensures.items_if_clones_equal (λ y e. e) ∙ ap (λ (x : ℕ). replicate 256 x) c.closed.ensures in
+    record {
+      mounted = subst (λ (ws : List Word). IsMounted kernel ws) (sym c.in-Ok.ensures.ok)
+          (mounted_settled kernel c.mount.new.words c.settle.ensures.size c.in_ok-kernel.ensures.sound_after c.in_ok-kernel.ensures.finished c.in_ok-kernel.ensures.told holders);
+      small = small_opened kernel.callers c.in-Ok-vec.pkrus.items callers pkrus;
+    }
+
+pub returns-clause-refuses : goal.returns-clause-refuses
+returns-clause-refuses c = passed_done c.in_ok-kernel.kernel _ (IsFirstFault c.args.words) c.in_ok-kernel.ensures.refuses

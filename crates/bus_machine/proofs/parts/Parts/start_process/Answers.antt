@@ -1,15 +1,15 @@
-use Rattle.std.proofs.Common.{ℕ, List, ap, subst, sym, ◌∙◌, map}
-use Rattle.std.proofs.lemmas.List.{map-append}
-use Rattle.tr_types.specs.declared.permission.Cred.{Cred}
+use Rattle.std.proofs.Common.{sym, subst}
+use Rattle.std.proofs.lemmas.Result.{on_ok_weaker}
+use Rattle.kern_calls.specs.Calls.{KernelView, IsMounted}
 use Rattle.bus_machine.specs.Ties.{AreSmall}
 use Rattle.bus_machine.proofs.Started.{small_process}
 use Rattle.bus_machine.proofs.parts.Parts.start_process.Goals as goal
 
 pub returns-clause-tied : goal.returns-clause-tied
 returns-clause-tied c =
-    let more = ap (λ (l : List (ℕ × Cred)). map (λ (p : ℕ × Cred). p.0) l) c.in_ok-push.ensures.items ∙ map-append (λ (p : ℕ × Cred). p.0) c.args.self.now.processes.items _ in
-    record {
-      owners = c.requires.tied.owners;
-      told = c.requires.tied.told;
-      small = subst (λ (l : List ℕ). AreSmall l c.args.self.now.tables.threads c.args.self.now.pkrus.items) (sym more) (small_process _ _ _ _ c.requires.tied.small c.requires.small);
-    }
+    let self = c.args.self.now in
+    let tied = c.requires.tied in
+    on_ok_weaker c.start_process.result (λ after. record {
+      mounted = subst (λ (k : KernelView). IsMounted k self.words) (sym after) (record { working = tied.mounted.working; told = tied.mounted.told });
+      small = subst (λ (k : KernelView). AreSmall k.callers self.pkrus.items) (sym after) (small_process self.kernel.callers self.pkrus.items c.args.process c.args.cred tied.small c.requires.small);
+    }) c.start_process.ensures.ok

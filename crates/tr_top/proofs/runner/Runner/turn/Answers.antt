@@ -28,7 +28,7 @@ act-requires-clause-sound g c =
     let steps = subst (SessionStepsFrom c.args.call.now.session c.unwrap_or-answer.result.now c.next.new.self) c.in-Act.is c.in_ok-mark.ensures.gives in
     let acts = turn_acts w trace c.args.call.now c.next.new.self c.in-Act.mark c.in-Act.action _ heard steps k.stands.knows in
     let same : c.next.new.self.thread ≡ c.thread-thread.result = c.next.ensures.thread ∙ sym c.thread-thread.ensures in
-    subst (λ (t : ℕ). (answer : Answer) → Answers w.machine.bus t c.in-Act.action answer → IsSound w (entry.Act t 0 c.in-Act.mark c.in-Act.action answer)) same
+    subst (λ (t : ℕ). (answer : Answer) → Answers w.machine.bus t 0 c.in-Act.action answer → IsSound w (entry.Act t 0 c.in-Act.mark c.in-Act.action answer)) same
     (λ answer is. act_sound w _ trace c.args.call.now next c.in-Act.mark c.in-Act.action k.stands c.next.ensures.thread c.next.ensures.command acts answer is)
 
 pub returns-in_ok-act-in-Act-clause-stands : goal.returns-in_ok-act-in-Act-clause-stands
@@ -46,7 +46,7 @@ returns-in_ok-act-in-Act-clause-stands g c =
     stands_added lines trace c.act.new.self.log.trace (entry.Act c.next.new.self.thread 0 c.in-Act.mark c.in-Act.action answer) (Some next)
     (added ∙ ap (λ (t : ℕ). trace ++ entry.Act t 0 c.in-Act.mark c.in-Act.action answer ∷ []) same)
     (act_stands w _ trace c.args.call.now next c.in-Act.mark c.in-Act.action k.stands c.next.ensures.thread c.next.ensures.command acts answer c.len-call.ensures
-    (subst (λ (t : ℕ). Answers w.machine.bus t c.in-Act.action answer) same answers))
+    (subst (λ (t : ℕ). Answers w.machine.bus t 0 c.in-Act.action answer) same answers))
 
 pub returns-in_err-add-in-Over-clause-goes : goal.returns-in_err-add-in-Over-clause-goes
 returns-in_err-add-in-Over-clause-goes g c =

@@ -1,7 +1,0 @@
-use Rattle.std.proofs.Common.{◌≡◌, map}
-use Rattle.std.specs.List.{range_with_len}
-use Rattle.tr_types.specs.NewImage.{new_word}
-use Rattle.bus_machine.proofs.tests.new_words.Given as goal
-
-abbrev pub invariant-loop-i : goal.invariant-loop-i
-invariant-loop-i l = l.words.items ≡ map (new_word l.pages) (range_with_len 0 l.i)

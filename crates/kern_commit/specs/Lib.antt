@@ -1,0 +1,2 @@
+-- the steps that zero a page, under names
+pub mod Pages

@@ -1,0 +1,2 @@
+-- what a row leaves of the kernel's tables
+pub mod Rows

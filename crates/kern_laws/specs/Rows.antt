@@ -1,0 +1,20 @@
+-- What a row leaves of the kernel's tables, before it is committed.
+use Rattle.std.specs.Prelude.{◌≡◌, ◌≢◌, ℕ, List, All, true}
+use Rattle.zo_layout.specs.Layout.{signature_word, version_word, count_word}
+use Rattle.pm_words.specs.Word.{Word}
+use Rattle.tr_types.specs.KernelView.{pages_of}
+use Rattle.tr_types.specs.Journal.{kernel_word}
+use Rattle.tr_types.specs.Kernel.{read_after}
+use Rattle.tr_types.specs.KernelTables.{is_id, stands_in}
+use Rattle.tr_types.specs.KernelCalls.{Row}
+use Rattle.tr_types.specs.Commits.{MayCommit}
+use Rattle.kern_owner.specs.Laws.{SameTables, TablesPass}
+
+-- The row's pages and pairs can be committed, no pair is for what the superblock says, and wherever the tables read as they did
+-- with the pairs laid over them, no rule of theirs fails and each coffer that is held then is there.
+pub record KeepsTables (words : List Word) (row : Row) : Type 0 where
+  pub may : MayCommit words row.granted row.pairs
+  pub spares : All (λ p. (p.0 ≢ signature_word) × (p.0 ≢ version_word) × (p.0 ≢ count_word)) row.pairs
+  pub tables : (after : ℕ → ℕ) → SameTables (pages_of words) (read_after row.pairs (kernel_word words)) after → TablesPass (pages_of words) after
+  pub ids : All (λ h. is_id h.id ≡ true) row.holders
+  pub held : (after : ℕ → ℕ) → SameTables (pages_of words) (read_after row.pairs (kernel_word words)) after → All (λ h. stands_in (pages_of words) after h.id ≡ true) row.holders

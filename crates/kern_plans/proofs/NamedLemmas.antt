@@ -1,0 +1,47 @@
+-- Coffers that a call names.
+use Rattle.std.proofs.Common.{◌≡◌, ◌∙◌, ℕ, ◌≤◌, Bool, true, false, List, Option, Some, None, Result, Ok, refl, sym, ap, subst}
+use Rattle.std.specs.Prelude.{option_map, is_some, nat_le}
+use Rattle.std.proofs.lemmas.Bool.{leb-true, and_parts}
+use Rattle.pm_words.specs.Word.{Word}
+use Rattle.tr_types.specs.KernelView.{pages_of}
+use Rattle.tr_types.specs.Journal.{kernel_word}
+use Rattle.tr_types.specs.Kernel.{coffers}
+use Rattle.tr_types.specs.KernelTables.{Coffer, is_id, stands_in}
+use Rattle.tr_types.specs.KernelRules.{IsSoundKernel}
+use Rattle.tr_types.specs.Paths.{is_path_text}
+use Rattle.tr_types.specs.PathMap.{coffer_with, dropped_pairs}
+use Rattle.kern_roots.specs.Changes.{Changes, is_used}
+use Rattle.kern_roots.specs.Entries.{has_id, has_coffer, coffer_of}
+use Rattle.kern_roots.specs.declared.types.RootsFault.{RootsFault}
+use Rattle.kern_roots.proofs.ReadingSound.{sound_entry}
+use Rattle.kern_roots.proofs.ReadingCoffers.{coffer_is, coffer_isnt}
+
+-- the path of a coffer is one
+pub is_text : (words : List Word) (id : ℕ) (path : List ℕ) → IsSoundKernel words → option_map (λ (c : Coffer). c.path) (coffer_with (coffers words) id) ≡ Some path → is_path_text path ≡ true
+is_text words id path sound is = by (has_coffer words id) refl
+  where
+    by : (b : Bool) → has_coffer words id ≡ b → is_path_text path ≡ true
+    by true there =
+        let here = ap (λ (found : Option Coffer). option_map (λ (c : Coffer). c.path) found) (coffer_is (pages_of words) (kernel_word words) id there) in
+        let same : (coffer_of words id).path ≡ path = let both : Some (coffer_of words id).path ≡ Some path = sym here ∙ is in cc in
+        ap is_path_text (sym same) ∙ (sound_entry words id sound there).path
+    by false missing =
+        let none = ap (λ (found : Option Coffer). option_map (λ (c : Coffer). c.path) found) (coffer_isnt (pages_of words) (kernel_word words) id missing) in
+        let both : None ≡ Some path = sym none ∙ is in
+        cc
+
+-- a coffer that is there has a number of 1 to 256
+pub used_range : (pages : ℕ) (at : ℕ → ℕ) (id : ℕ) → is_used pages at id ≡ true → id ≤ 256
+used_range pages at id used = by (has_id pages at id) refl
+  where
+    by : (b : Bool) → has_id pages at id ≡ b → id ≤ 256
+    by true there = leb-true id 256 (and_parts (nat_le 1 id) (nat_le id 256) (and_parts (is_id id) (stands_in pages at id) there).0).1
+    by false missing = let both : true ≡ false = sym used ∙ ap (λ (found : Option Coffer). is_some found) (coffer_isnt pages at id missing) in cc
+
+-- what is stored where a coffer goes
+pub goes_so : (ws words : List Word) (id : ℕ) (made : List (ℕ × ℕ)) (result : Result (List (ℕ × ℕ)) RootsFault) → ws ≡ words → result ≡ Ok made
+    → Changes (pages_of ws) (kernel_word ws) id (dropped_pairs (pages_of ws) (kernel_word ws) id) result
+    → (id ≤ 256) × (made ≡ dropped_pairs (pages_of words) (kernel_word words) id)
+goes_so ws words id made result same is changes =
+    let p = subst (λ (r : Result (List (ℕ × ℕ)) RootsFault). Changes (pages_of ws) (kernel_word ws) id (dropped_pairs (pages_of ws) (kernel_word ws) id) r) is changes in
+    (used_range (pages_of ws) (kernel_word ws) id p.0, p.1 ∙ ap (λ (w : List Word). dropped_pairs (pages_of w) (kernel_word w) id) same)

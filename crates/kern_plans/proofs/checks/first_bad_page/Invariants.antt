@@ -1,0 +1,7 @@
+use Rattle.std.proofs.Common.{◌≡◌, drop}
+use Rattle.std.specs.Prelude.{find}
+use Rattle.tr_types.specs.KernelCalls as calls
+use Rattle.kern_plans.proofs.checks.first_bad_page.Given as goal
+
+abbrev pub invariant-loop-page : goal.invariant-loop-page
+invariant-loop-page l = find (calls.is_bad_page l.asked.words l.id l.kept l.pages) (drop l.page-index l.pages) ≡ find (calls.is_bad_page l.asked.words l.id l.kept l.pages) l.pages

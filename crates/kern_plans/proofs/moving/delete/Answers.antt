@@ -1,0 +1,27 @@
+use Rattle.std.proofs.Common.{◌∙◌, ℕ, List, [], ◌∷◌, ◌++◌, length, refl, ap, arith}
+use Rattle.tr_types.specs.Kernel.{coffer_pages}
+use Rattle.tr_types.specs.KernelCalls as calls
+use Rattle.tr_types.specs.declared.kernel_call.KernAnswer.{KernAnswer}
+use Rattle.kern_plans.proofs.CheckLemmas.{mapped_ok}
+use Rattle.kern_plans.proofs.NamedLemmas.{goes_so}
+use Rattle.kern_plans.proofs.moving.delete.Goals as goal
+
+pub delete_pairs-requires : goal.delete_pairs-requires
+delete_pairs-requires c =
+    (goes_so c.words.result.now c.args.asked.now.words c.args.id c.in_ok-dropped.dropped c.drop_entry.result c.words.ensures.words
+    (mapped_ok KernAnswer c.drop_entry.result c.in_ok-dropped.dropped _ c.in_ok-dropped.ensures.variant c.in_ok-dropped.ensures.cases) c.drop_entry.ensures).0
+
+pub returns-in-Ok : goal.returns-in-Ok
+returns-in-Ok c = λ callers has.
+    let words = c.args.asked.now.words in
+    let gone = goes_so c.words.result.now words c.args.id c.in_ok-dropped.dropped c.drop_entry.result c.words.ensures.words
+    (mapped_ok KernAnswer c.drop_entry.result c.in_ok-dropped.dropped _ c.in_ok-dropped.ensures.variant c.in_ok-dropped.ensures.cases) c.drop_entry.ensures in
+    record {
+      due = c.in_ok-check_delete.ensures callers has;
+      answer = refl;
+      granted = c.new.ensures.items;
+      pairs =
+          c.in-Ok.ensures
+          ∙ ap (λ (pairs : List (ℕ × ℕ)). calls.owner_pairs words 0 (coffer_pages words c.args.id) ++ (pairs ++ calls.link_pair c.args.link ∷ [])) (c.as_slice.ensures ∙ gone.1);
+      few = let none = ap (λ (xs : List ℕ). length xs) c.new.ensures.items in omega arith;
+    }

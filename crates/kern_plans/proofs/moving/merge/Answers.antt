@@ -1,0 +1,24 @@
+use Rattle.std.proofs.Common.{◌≡◌, ◌∙◌, ℕ, List, None, length, refl, ap, subst, arith}
+use Rattle.tr_types.specs.KernelView.{pages_of}
+use Rattle.tr_types.specs.Journal.{kernel_word}
+use Rattle.tr_types.specs.Kernel.{coffer_pages}
+use Rattle.tr_types.specs.PathMap.{dropped_pairs}
+use Rattle.tr_types.specs.KernelCalls.{first_due, merge_row, unlisted}
+use Rattle.kern_plans.specs.Parts.{merged_pairs}
+use Rattle.kern_plans.proofs.moving.merge.Goals as goal
+
+pub returns-in-Ok : goal.returns-in-Ok
+returns-in-Ok c = λ callers cred.
+    let asked = c.args.asked.now in
+    let words = c.args.asked.now.words in
+    record {
+      due =
+          subst (λ (pages : List ℕ). first_due (merge_row callers asked.words asked.holders asked.thread asked.tick c.args.child c.args.parent pages c.args.link c.args.guard).refusals ≡ None) c.as_slice-pages.ensures
+          (c.in_ok-check_merge.ensures.refused callers cred);
+      answer = refl;
+      granted = c.new.ensures.items;
+      pairs =
+          let stored = λ (pages : List ℕ). merged_pairs words c.args.parent pages (unlisted pages (coffer_pages words c.args.child)) (dropped_pairs (pages_of words) (kernel_word words) c.args.child) c.args.link in
+          ◌∙◌ {b = stored c.as_slice-pages.result.now} c.in-Ok.ensures (ap stored c.as_slice-pages.ensures);
+      few = let none = ap (λ (xs : List ℕ). length xs) c.new.ensures.items in omega arith;
+    }

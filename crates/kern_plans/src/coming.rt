@@ -1,0 +1,122 @@
+// What a New checks and stores.
+ghost use Rattle.std.specs.Prelude.{◌≡◌, ◌<◌, ◌++◌, not, [], ◌∷◌, All, slice_index_or, IfOk};
+ghost use Rattle.tr_types.specs.KernelView.{pages_of};
+ghost use Rattle.tr_types.specs.KernelCalls as calls;
+ghost use Rattle.tr_types.specs.declared.kernel_call.KernAnswer.TheVariants as answer;
+ghost use Rattle.kern_plans.specs.Parts.{Passes, entry_refusals, fresh_of, fresh_pairs, fresh_plan};
+
+use crate::asked::Asked;
+use crate::checks::{check_linking, is_bad_new_path, refuse_where};
+use crate::giving::pass_pages;
+use crate::moving::{Guard, Link};
+use crate::naming::new_entry;
+use crate::planned::Planned;
+use kern_roots::Root;
+use pm_words::Words;
+use std::alloc::{AllocError, Global};
+use tr_types::{KernAnswer, Path, Perm};
+use zo_layout::{page_at, page_kind};
+
+/// The state of a coffer that stands.
+const STANDS: u8 = 1;
+
+/// The pages of a new coffer: its control page and its root page.
+const NEW_PAGES: u32 = 2;
+
+/// The caller holds the parent for writing, the path is one of a new coffer there, and both the link's and
+/// the guard's words are in pages of the parent's and the ones that are given.
+pub fn check_new(
+    alloc: Global,
+    asked: &Asked,
+    parent: u16,
+    path: &Path,
+    link: Link,
+    guard: Guard,
+) -> Result<(), KernAnswer>
+    requires { calls.IsPathText path.now }
+    ensures { Passes (calls.refused_where (not (calls.holds_for_writing asked.now.thread parent asked.now.holders)) answer.NotHeld
+        ∷ calls.refused_where (calls.is_bad_new_path asked.now.words parent path.now) answer.BadPath
+        ∷ calls.pages_refused asked.now.words parent (calls.link_addr link ∷ guard.0 ∷ []) parent [] []
+        ∷ calls.guard_refused asked.now.words asked.now.tick guard ∷ calls.link_refused asked.now.words link ∷ []) result }
+{
+    let held = asked.holds_for_writing(parent);
+    refuse_where(!held, KernAnswer::NotHeld)?;
+    let bad = is_bad_new_path(asked, parent, path);
+    refuse_where(bad, KernAnswer::BadPath)?;
+    check_linking(alloc, asked, parent, link, guard, parent, &[], &[])
+}
+
+/// The plan by which the two least free pages, as the control page and the root page, become a coffer of
+/// this path and permission, whose root page is of this kind. `Taken`, `TooMany`, or `NoPages` where
+/// fewer are free.
+pub fn fresh(
+    alloc: Global,
+    asked: &Asked,
+    path: &Path,
+    perm: Perm,
+    kind: u8,
+    link: Link,
+) -> Result<Planned, KernAnswer>
+    ensures refused { Passes (entry_refusals asked.now.words path.now ++ calls.pages_short asked.now.words 2 ∷ []) result }
+    ensures plan { IfOk result (λ plan. plan ≡ fresh_plan asked.now.words (fresh_of asked.now.words path.now perm) kind link) }
+{
+    let Ok(granted) = asked.first_free(NEW_PAGES) else {
+        return Err(KernAnswer::NoMemory);
+    };
+    let root = Root {
+        perm,
+        state: STANDS,
+        kind: 0,
+        control: page_of(&granted, 0),
+        root: page_of(&granted, 1),
+    };
+    let words = asked.words();
+    let (id, added) = new_entry(alloc, words, path, &root)?;
+    let free = granted.len() as u32;
+    if free < NEW_PAGES {
+        return Err(KernAnswer::NoPages {
+            asked: NEW_PAGES,
+            free,
+        });
+    }
+    match fresh_pairs(alloc, words, id, &granted, added.as_slice(), kind, link) {
+        Ok(pairs) => Ok(Planned {
+            answer: KernAnswer::Made(id),
+            granted,
+            pairs,
+        }),
+        Err(_) => Err(KernAnswer::NoMemory),
+    }
+}
+
+// One of some pages, or 0.
+fn page_of(pages: &[u32], i: usize) -> u32
+    ensures { result ≡ slice_index_or pages.now i 0 }
+{
+    match pages.get(i) {
+        Some(&page) => page,
+        None => 0,
+    }
+}
+
+// The words that are stored where a coffer of this number comes, with these words of its entry.
+fn fresh_pairs(
+    alloc: Global,
+    words: &Words,
+    id: u16,
+    granted: &[u32],
+    added: &[(u64, u64)],
+    kind: u8,
+    link: Link,
+) -> Result<Vec<(u64, u64)>, AllocError>
+    requires { All (λ page. page < pages_of words.now) granted.now }
+    ensures { IfOk result (λ pairs. pairs.items ≡ fresh_pairs words.now id granted.now added.now kind link) }
+{
+    let (addr, _old, new) = link;
+    let mut pairs = Vec::new(alloc);
+    pass_pages(&mut pairs, words, granted, id)?;
+    pairs.extend_from_slice(added)?;
+    pairs.push((page_kind(page_at(page_of(granted, 1))), u64::from(kind)))?;
+    pairs.push((addr, new))?;
+    Ok(pairs)
+}

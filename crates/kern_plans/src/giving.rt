@@ -1,0 +1,28 @@
+// Pages that come to an owner.
+ghost use Rattle.std.specs.Prelude.{◌≡◌, ◌<◌, ◌++◌, All, OnOk};
+ghost use Rattle.tr_types.specs.KernelView.{pages_of};
+ghost use Rattle.tr_types.specs.KernelCalls as calls;
+
+use pm_words::Words;
+use std::alloc::AllocError;
+use zo_layout::owner_word;
+
+/// The owner of a page that is nobody's.
+pub const NOBODY: u16 = 0;
+
+/// Adds the pairs by which these pages become the owner's, 0 for nobody's.
+pub fn pass_pages(
+    pairs: &mut Vec<(u64, u64)>,
+    words: &Words,
+    pages: &[u32],
+    owner: u16,
+) -> Result<(), AllocError>
+    requires { All (λ page. page < pages_of words.now) pages.now }
+    ensures { OnOk result (pairs.new.items ≡ pairs.old.items ++ calls.owner_pairs words.now owner pages.now) }
+{
+    let image = words.pages();
+    for &page in pages {
+        pairs.push((owner_word(image, page), u64::from(owner)))?;
+    }
+    Ok(())
+}

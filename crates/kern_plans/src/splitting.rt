@@ -1,0 +1,133 @@
+// A coffer that is split off another.
+ghost use Rattle.std.specs.Prelude.{◌≡◌, ◌<◌, ◌++◌, [], ◌∷◌, All, length, slice_index_or, IfOk, OnOk};
+ghost use Rattle.tr_types.specs.KernelView.{pages_of};
+ghost use Rattle.tr_types.specs.KernelCalls as calls;
+ghost use Rattle.kern_plans.specs.Parts.{Passes, entry_refusals, piece_refusals, piece_of, piece_pairs, piece_plan};
+
+use crate::asked::Asked;
+use crate::checks::{check_linking, is_bad_new_path, refuse_where};
+use crate::giving::pass_pages;
+use crate::moving::{Guard, Link};
+use crate::naming::new_entry;
+use crate::owning::STANDS;
+use crate::planned::Planned;
+use kern_roots::Root;
+use pm_words::Words;
+use std::alloc::{AllocError, Global};
+use tr_types::{KernAnswer, Path, Perm};
+use zo_layout::{page_at, page_kind, word_of};
+
+/// What the kind of a directory is.
+const DIRECTORY: u64 = 0;
+
+/// What refuses a split before it is tried whether there is room for a new coffer: its path, and the
+/// pages, the guard and the link, where the root page and the control page of the whole stay.
+pub fn check_piece(
+    alloc: Global,
+    asked: &Asked,
+    id: u16,
+    whole: &Root,
+    path: &Path,
+    pages: &[u32],
+    link: Link,
+    guard: Guard,
+) -> Result<(), KernAnswer>
+    requires { calls.IsPathText path.now }
+    ensures { Passes (piece_refusals asked.now.words asked.now.tick id path.now (whole.now.control ∷ whole.now.root ∷ []) pages.now link guard) result }
+{
+    refuse_where(is_bad_new_path(asked, id, path), KernAnswer::BadPath)?;
+    let kept = [whole.control, whole.root];
+    check_linking(alloc, asked, id, link, guard, id, &kept, pages)
+}
+
+/// The plan by which the listed pages, and the least free page as the control page, become a coffer of
+/// this path and permission. `Taken`, `TooMany`, or `NoPages` where no page is free.
+pub fn piece(
+    alloc: Global,
+    asked: &Asked,
+    path: &Path,
+    perm: Perm,
+    pages: &[u32],
+    link: Link,
+) -> Result<Planned, KernAnswer>
+    requires listed { All (λ page. page < pages_of asked.now.words) pages.now }
+    requires some { 0 < length pages.now }
+    ensures refused { Passes (entry_refusals asked.now.words path.now ++ calls.pages_short asked.now.words 1 ∷ []) result }
+    ensures plan { IfOk result (λ plan. plan ≡ piece_plan asked.now.words (piece_of asked.now.words path.now perm pages.now) pages.now link) }
+{
+    let Ok(granted) = asked.first_free(1) else {
+        return Err(KernAnswer::NoMemory);
+    };
+    let root = Root {
+        perm,
+        state: STANDS,
+        kind: 0,
+        control: first_of(&granted),
+        root: first_of(pages),
+    };
+    let words = asked.words();
+    let (id, added) = new_entry(alloc, words, path, &root)?;
+    if granted.is_empty() {
+        return Err(KernAnswer::NoPages { asked: 1, free: 0 });
+    }
+    match piece_pairs(alloc, words, id, pages, &granted, added.as_slice(), link) {
+        Ok(pairs) => Ok(Planned {
+            answer: KernAnswer::Made(id),
+            granted,
+            pairs,
+        }),
+        Err(_) => Err(KernAnswer::NoMemory),
+    }
+}
+
+// The first of some pages, or 0.
+fn first_of(pages: &[u32]) -> u32
+    ensures { result ≡ slice_index_or pages.now 0 0 }
+{
+    match pages.first() {
+        Some(&page) => page,
+        None => 0,
+    }
+}
+
+// The words that are stored where a coffer of this number is split off, with these words of its entry.
+fn piece_pairs(
+    alloc: Global,
+    words: &Words,
+    id: u16,
+    pages: &[u32],
+    granted: &[u32],
+    added: &[(u64, u64)],
+    link: Link,
+) -> Result<Vec<(u64, u64)>, AllocError>
+    requires listed { All (λ page. page < pages_of words.now) pages.now }
+    requires some { 0 < length pages.now }
+    requires free { All (λ page. page < pages_of words.now) granted.now }
+    ensures { IfOk result (λ pairs. pairs.items ≡ piece_pairs words.now id pages.now granted.now added.now link) }
+{
+    let mut pairs = Vec::new(alloc);
+    pass_pages(&mut pairs, words, pages, id)?;
+    pass_pages(&mut pairs, words, granted, id)?;
+    pairs.extend_from_slice(added)?;
+    clear_directory(&mut pairs, words, first_of(pages))?;
+    let (addr, _old, new) = link;
+    pairs.push((addr, new))?;
+    Ok(pairs)
+}
+
+// Adds zeros for words 1 to 3 of a directory's page, and nothing for one of another kind.
+fn clear_directory(pairs: &mut Vec<(u64, u64)>, words: &Words, page: u32) -> Result<(), AllocError>
+    requires { page < pages_of words.now }
+    ensures { OnOk result (pairs.new.items ≡ pairs.old.items ++ calls.cleared_words words.now page) }
+{
+    let start = page_at(page);
+    if words.load(page_kind(start)) != DIRECTORY {
+        return Ok(());
+    }
+    pairs.extend_from_slice(&[
+        (word_of(start, 1), 0),
+        (word_of(start, 2), 0),
+        (word_of(start, 3), 0),
+    ])?;
+    Ok(())
+}
