@@ -19,4 +19,4 @@ returns-clause-sound c =
     in
     subst (λ (ws : List Word). IsSoundKernel ws) (sym is)
     (pending_is_sound 64 50 1 (all_durable (new_image 64)) (size_opened 64 (omega arith) (omega arith)) (new_is_sound 64 (omega arith) (omega arith)) (new_committed 64 (omega arith) (omega arith))
-    (omega arith) (omega arith) ((new_tables 64 (omega arith) (omega arith)).owners 50 (omega arith)) refl (root_stands 64 (kernel_word (all_durable (new_image 64))) (new_tables 64 (omega arith) (omega arith))))
+    (omega arith) (omega arith) ((new_tables 64 (omega arith) (omega arith)).owners 50 (omega arith)) refl (root_stands 64 (kernel_word (all_durable (new_image 64))) (new_tables 64 (omega arith) (omega arith)).entries))
