@@ -8,5 +8,3 @@ pub mod WordLemmas
 pub mod ReadingLemmas
 -- a text has one first bad place, and is then no script
 pub mod PlaceLemmas
--- what a text keeps while more is appended
-pub mod TextLemmas

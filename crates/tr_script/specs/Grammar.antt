@@ -6,6 +6,7 @@ use Rattle.tr_types.specs.Fold.{Each}
 use Rattle.tr_types.specs.declared.command.Command.{Command}
 use Rattle.tr_types.specs.declared.command.Command.TheVariants.{Create, Stat}
 use Rattle.tr_types.specs.Commands.{IsCommand}
+use Rattle.tr_text.specs.Spelling.{process_name, thread_name, mode_text}
 use Rattle.tr_script.specs.declared.script.Line.{Line}
 use Rattle.tr_script.specs.declared.script.Line.TheVariants.{Mkfs, Process, Thread, Call, Do, Finish, Open, Stray}
 
@@ -35,16 +36,6 @@ abbrev pub kept_lines : List ℕ → List (List ℕ)
 kept_lines text = filter is_kept (lines_of text)
 
 -- How a line is spelled, in words. Numbers are decimal with no leading zero.
-
-abbrev pub process_name : ℕ → List ℕ
-process_name process = 112 ∷ decimal (process + 1)
-
-abbrev pub thread_name : ℕ → List ℕ
-thread_name thread = 116 ∷ decimal (thread + 1)
-
--- three octal digits
-abbrev pub mode_text : ℕ → List ℕ
-mode_text mode = (48 + mode / 64 % 8) ∷ (48 + mode / 8 % 8) ∷ (48 + mode % 8) ∷ []
 
 abbrev pub command_words : Command → List (List ℕ)
 command_words (Create path mode) = codes "create" ∷ path ∷ mode_text mode ∷ []

@@ -4,7 +4,5 @@ pub mod Grammar
 pub mod Places
 -- what the reader of scripts answers
 pub mod Reading
--- what the entries of a trace print
-pub mod Text
 -- how a run ends
 pub mod Status

@@ -3,7 +3,8 @@
 use Rattle.std.specs.Prelude.{◌≡◌, ◌≢◌, ◌⊎◌, ℕ, ◌+◌, ◌-◌, ◌<◌, ◌≤◌, List, [], ◌∷◌, ◌++◌, length, take, Contains, true, false, Some, None, if◌then◌else◌, ◌==◌, bytes_eq, codes}
 use Rattle.std.specs.Fmt.{decimal}
 use Rattle.tr_types.specs.Commands.{IsPath, IsPathOfOne}
-use Rattle.tr_script.specs.Grammar.{Declared, declared, nothing_declared, words_of, lines_of, is_kept, process_name, thread_name, mode_text, line_words, MayStand, IsThreadOf, IsScriptAddress, text_limit}
+use Rattle.tr_script.specs.Grammar.{Declared, declared, nothing_declared, words_of, lines_of, is_kept, line_words, MayStand, IsThreadOf, IsScriptAddress, text_limit}
+use Rattle.tr_text.specs.Spelling.{process_name, thread_name, mode_text}
 use Rattle.tr_script.specs.declared.script.Line.{Line}
 
 -- A kind of place in a line. `New` is declared there, `Known` was declared above.

@@ -22,7 +22,7 @@ use Rattle.tr_script.specs.declared.reader.ScriptFault.TheVariants.{BadLine}
 use Rattle.tr_script.specs.Grammar.{IsScript, text_limit}
 use Rattle.tr_script.specs.Places.{IsFirstBad}
 use Rattle.tr_script.specs.Reading.{OnBadLine}
-use Rattle.tr_script.specs.Text.{brief_texts}
+use Rattle.tr_text.specs.Text.{brief_texts}
 use Rattle.tr_top.specs.Run.{place_after}
 use Rattle.tr_top.specs.Running.{IsTied, Goes}
 use Rattle.tr_top.specs.Top.{Sinks, RunEnds, ReadsNoScript}

@@ -14,7 +14,7 @@ use Rattle.bus_machine.specs.View.{MachineView}
 use Rattle.tr_outside.specs.Causes.{Rose}
 use Rattle.tr_outside.specs.Whole.{AppendsFront}
 use Rattle.tr_script.specs.declared.script.Line.{Line}
-use Rattle.tr_script.specs.Text.{brief_text, brief_texts}
+use Rattle.tr_text.specs.Text.{brief_text, brief_texts}
 use Rattle.tr_top.specs.declared.log.Stop.{Stop}
 use Rattle.tr_top.specs.declared.log.Stop.TheVariants.{Full, NoMemory, OutFailed}
 use Rattle.tr_top.specs.Along.{Place, Turns, Resting, MayFollow, IsNext, IsAtEnd, followed, start_of}

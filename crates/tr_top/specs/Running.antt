@@ -22,7 +22,7 @@ use Rattle.tr_outside.specs.Causes.{Rose}
 use Rattle.tr_outside.specs.Whole.{AppendsFront}
 use Rattle.tr_dispatch.specs.Sessions.{IsGrounded, SessionKnows}
 use Rattle.tr_script.specs.Grammar.{Declared, declared, nothing_declared, MayStand}
-use Rattle.tr_script.specs.Text.{brief_text, brief_texts}
+use Rattle.tr_text.specs.Text.{brief_text, brief_texts}
 use Rattle.tr_script.specs.declared.script.Line.{Line}
 use Rattle.tr_script.specs.declared.script.Line.TheVariants.{Mkfs}
 use Rattle.tr_top.specs.Along.{Place, Running, Turns, Resting, IsAtEnd, MayFollow, before, after_action}

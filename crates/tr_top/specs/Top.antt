@@ -11,7 +11,7 @@ use Rattle.tr_script.specs.declared.status.Status.TheVariants.{Done, Usage, BadS
 use Rattle.tr_script.specs.Grammar.{IsScript, text_limit}
 use Rattle.tr_script.specs.Places.{IsFirstBad}
 use Rattle.tr_top.specs.Along.{IsAtEnd}
-use Rattle.tr_script.specs.Text.{brief_texts}
+use Rattle.tr_text.specs.Text.{brief_texts}
 use Rattle.tr_top.specs.Run.{IsRun, trace_limit, place_after, last_words}
 
 -- What the sinks tell at a moment: the bytes that each took, where they are known, and its count of faults.

@@ -7,7 +7,7 @@ use bus_machine::BusFault;
 use std::alloc::{AllocError, Global};
 use thiserror::Error;
 use tr_outside::{Sink, WriteFault, write_all};
-use tr_script::append_brief_text;
+use tr_text::append_brief_text;
 use tr_types::{Entry, Trace};
 
 /// The greatest number of entries of a trace.

@@ -31,7 +31,8 @@ impl Model for Seen {
 
 impl Seen {
     ghost use Rattle.std.specs.Prelude.{◌≡◌, ◌≢◌, ◌↔◌, ◌<◌, ℕ, IfSome, IfNone, IsTrue, OnOk, Contains, Some};
-    ghost use Rattle.tr_script.specs.Grammar.{nothing_declared, declared, process_name, thread_name, IsThreadOf};
+    ghost use Rattle.tr_script.specs.Grammar.{nothing_declared, declared, IsThreadOf};
+    ghost use Rattle.tr_text.specs.Spelling.{process_name, thread_name};
     ghost use Rattle.tr_script.specs.Places.{MayBe, NewProcess, NewThread, KnownProcess, KnownThread, StrayThread};
 
     pub fn nothing(alloc: Global) -> Seen

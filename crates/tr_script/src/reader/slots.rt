@@ -2,7 +2,8 @@
 ghost use Rattle.std.specs.Prelude.{◌≡◌, ◌≢◌, ℕ, ◌<◌, ◌≤◌, List, ◌∷◌, IfOk, IfSome, IfNone, OnOk, Contains, Some, codes};
 ghost use Rattle.std.specs.Fmt.{decimal};
 ghost use Rattle.tr_types.specs.Commands.{IsPath, IsPathOfOne};
-ghost use Rattle.tr_script.specs.Grammar.{Declared, nothing_declared, process_name, thread_name, mode_text, IsThreadOf, IsScriptAddress};
+ghost use Rattle.tr_script.specs.Grammar.{Declared, nothing_declared, IsThreadOf, IsScriptAddress};
+ghost use Rattle.tr_text.specs.Spelling.{process_name, thread_name, mode_text};
 ghost use Rattle.tr_script.specs.Places.{FirstWord, Size, NewProcess, Zero, NewThread, KnownProcess, KnownThread, StrayThread, CommandWord, FilePath, AnyPath, FileMode, Address, Number, MayBe, MayBegin};
 ghost use Rattle.tr_script.specs.Reading.{OnBad, Takes, IsBadWord, first_text, may_begin, name_text};
 

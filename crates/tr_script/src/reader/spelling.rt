@@ -1,7 +1,8 @@
 // What a single word spells.
 ghost use Rattle.std.specs.Prelude.{◌≡◌, ◌≢◌, ◌↔◌, ◌⊎◌, ℕ, ◌+◌, ◌^◌, ◌<◌, ◌≤◌, ◌∷◌, IsTrue, IfSome, IfNone, length, slice_index, codes};
 ghost use Rattle.std.specs.Fmt.{decimal};
-ghost use Rattle.tr_script.specs.Grammar.{process_name, thread_name, IsScriptAddress};
+ghost use Rattle.tr_script.specs.Grammar.{IsScriptAddress};
+ghost use Rattle.tr_text.specs.Spelling.{process_name, thread_name};
 ghost use Rattle.tr_types.specs.Commands.{IsName, IsPath, IsPathOfOne};
 
 /// Processes are `p1` to `p64`, threads `t1` to `t256`.

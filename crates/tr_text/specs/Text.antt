@@ -11,7 +11,7 @@ use Rattle.tr_types.specs.declared.command.Reply.TheVariants as reply
 use Rattle.tr_types.specs.declared.entry.Entry.{Entry}
 use Rattle.tr_types.specs.declared.entry.Entry.TheVariants as entry
 use Rattle.tr_types.specs.declared.permission.Right.{Right}
-use Rattle.tr_script.specs.Grammar.{thread_name, mode_text}
+use Rattle.tr_text.specs.Spelling.{thread_name, mode_text}
 
 -- a space, and then the text
 abbrev pub then_text : List ℕ → List ℕ

@@ -1,7 +1,7 @@
 // What the entries of a trace print in brief.
 ghost use Rattle.std.specs.Prelude.{◌≡◌, ℕ, ◌+◌, ◌%◌, ◌<◌, ◌++◌, OnOk, OnErr, flat_map, codes, length, take};
-ghost use Rattle.tr_script.specs.Grammar.{mode_text, thread_name};
-ghost use Rattle.tr_script.specs.Text as spec;
+ghost use Rattle.tr_text.specs.Spelling.{mode_text, thread_name};
+ghost use Rattle.tr_text.specs.Text as spec;
 
 use itoa::Buffer;
 use pm_words::NoMemory;

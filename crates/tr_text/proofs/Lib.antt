@@ -1,0 +1,2 @@
+-- what a text keeps while more is appended
+pub mod TextLemmas
