@@ -2,7 +2,7 @@
 use Rattle.std.proofs.Common.{◌≡◌, ◌≢◌, ◌⊎◌, inl, inr, ℕ, zero, suc, ◌+◌, ◌<◌, ◌≤◌, List, [], ◌∷◌, ◌||◌, Bool, true, false, not, cond, length, map, get_or, drop, Contains, Option, Some, None, refl, ap, sym, subst, ◌∙◌, arith, eqb}
 use Rattle.std.specs.Prelude.{fold, nat_lt, nat_le, is_some, option_map, IsSome}
 use Rattle.std.specs.List.{list_any}
-use Rattle.std.proofs.lemmas.Bool.{cases_lt, or_parts, or_cases, and_parts, leb-true, eq-eqb, ne_eqb, lt-ltb, le-ltb}
+use Rattle.std.proofs.lemmas.Bool.{cases_lt, or_parts, or_cases, and_parts, leb-true, ne_eqb, lt-ltb, le-ltb}
 use Rattle.std.proofs.lemmas.List.{drop_more}
 use Rattle.std.proofs.lemmas.List.Elements.{Contains-append_cases, Contains-append_right}
 use Rattle.pm_words.specs.Word.{Word}
@@ -23,8 +23,10 @@ use Rattle.tr_types.specs.declared.kernel_call.Mapped.{Mapped}
 use Rattle.tr_types.specs.declared.permission.Cred.{Cred}
 use Rattle.tr_types.specs.declared.permission.Right.{Right}
 use Rattle.kern_roots.specs.Entries.{has_id}
-use Rattle.kern_roots.specs.Reading.{root_of}
+use Rattle.kern_roots.specs.Reading.{root_of, state_named}
 use Rattle.kern_roots.specs.declared.types.Root.{Root}
+use Rattle.kern_roots.specs.declared.types.RootState.{RootState}
+use Rattle.kern_roots.specs.declared.types.RootState.TheVariants.{Standing, Quarantined}
 use Rattle.kern_plans.proofs.RowLemmas.{skips, stops, lets_pass, refuses_so}
 use Rattle.kern_plans.proofs.LookLemmas.{coffer_by_id}
 use Rattle.kern_laws.proofs.LocatedLemmas.{located_there}
@@ -321,6 +323,16 @@ module _ (words : List Word) (path : List ℕ) (sound : IsSoundKernel words) (fi
 
 -- Map.
 
+quarantined_by : (word : ℕ) → state_named word ≡ Quarantined → eqb word 2 ≡ true
+quarantined_by word is = by (eqb word 2) refl is
+  where
+    by : (b : Bool) → eqb word 2 ≡ b → cond b Quarantined Standing ≡ Quarantined → eqb word 2 ≡ true
+    by true e is = e
+    by false e is = cc
+
+standing_by : (word : ℕ) → (state_named word ≡ Quarantined → ⊥) → eqb word 2 ≡ false
+standing_by word other = ne_eqb word 2 (λ two. other (ap state_named two))
+
 module _ (kernel : KernelView) (words : List Word) (thread : ℕ) (path : List ℕ) (right : Right) (exclusive : Bool) where
   pub map_bad_path : is_bad_look path ≡ true → FollowsRow (map_row kernel.callers words kernel.holders thread path right exclusive) kernel answer.BadPath kernel
   map_bad_path bad =
@@ -338,17 +350,17 @@ module _ (kernel : KernelView) (words : List Word) (thread : ℕ) (path : List �
         (refuses_so _ _ (asked true denied) ∙ ap (λ (f : FoundAt). Some (answer.Denied right f.id f.path_len)) (sym found)))
         refl
 
-    pub map_quarantined : refuses root.perm cred right ≡ false → root.state ≡ 2
+    pub map_quarantined : refuses root.perm cred right ≡ false → root.state ≡ Quarantined
         → FollowsRow (map_row kernel.callers words kernel.holders thread path right exclusive) kernel (answer.Quarantined first.id first.path_len) kernel
     map_quarantined allowed state =
         follows_refused (map_row kernel.callers words kernel.holders thread path right exclusive) kernel kernel (answer.Quarantined first.id first.path_len)
         (skips _ _ (lets_pass _ answer.BadPath good)
         ∙ (skips _ _ (lets_pass _ _ (asked false allowed))
         ∙ stops _ _ (answer.Quarantined first.id first.path_len)
-        (refuses_so _ _ (eq-eqb (located words path).state 2 (sym (ap (λ (r : Root). r.state) is) ∙ state)) ∙ ap (λ (f : FoundAt). Some (answer.Quarantined f.id f.path_len)) (sym found))))
+        (refuses_so _ _ (quarantined_by (located words path).state (sym (ap (λ (r : Root). r.state) is) ∙ state)) ∙ ap (λ (f : FoundAt). Some (answer.Quarantined f.id f.path_len)) (sym found))))
         refl
 
-    pub map_held : (m : Mapped) (result : KernAnswer) (new : KernelView) → refuses root.perm cred right ≡ false → root.state ≢ 2 → m ≡ mapped_as words (located words path) 0
+    pub map_held : (m : Mapped) (result : KernAnswer) (new : KernelView) → refuses root.perm cred right ≡ false → (root.state ≡ Quarantined → ⊥) → m ≡ mapped_as words (located words path) 0
         → FollowsRow (hold_row kernel.callers kernel.holders thread right exclusive m) kernel result new → FollowsRow (map_row kernel.callers words kernel.holders thread path right exclusive) kernel result new
     map_held m result new allowed state same so =
         let last : FollowsRow (hold_row kernel.callers kernel.holders thread right exclusive (mapped_as words (located words path) 0)) kernel result new =
@@ -356,7 +368,7 @@ module _ (kernel : KernelView) (words : List Word) (thread : ℕ) (path : List �
         let due : first_due (map_row kernel.callers words kernel.holders thread path right exclusive).refusals ≡ first_due (hold_row kernel.callers kernel.holders thread right exclusive (mapped_as words (located words path) 0)).refusals =
         skips _ _ (lets_pass _ answer.BadPath good)
         ∙ (skips _ _ (lets_pass _ _ (asked false allowed))
-        ∙ skips _ _ (lets_pass _ _ (ne_eqb (located words path).state 2 (λ e. state (ap (λ (r : Root). r.state) is ∙ e))))) in
+        ∙ skips _ _ (lets_pass _ _ (standing_by (located words path).state (λ e. state (ap (λ (r : Root). r.state) is ∙ e))))) in
         follows_later (map_row kernel.callers words kernel.holders thread path right exclusive).refusals
         (hold_row kernel.callers kernel.holders thread right exclusive (mapped_as words (located words path) 0)).refusals
         (map_row kernel.callers words kernel.holders thread path right exclusive).answer

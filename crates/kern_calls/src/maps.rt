@@ -11,13 +11,10 @@ ghost use Rattle.kern_calls.specs.Steps.{FollowsRow, hold_row};
 use crate::kernel::Kernel;
 use kern_pages::owners_law;
 use kern_plans::find;
-use kern_roots::entry_of;
+use kern_roots::{RootState, entry_of};
 use page_rights::MapFault;
 use pm_words::Words;
 use tr_types::{Cred, KernAnswer, Mapped, Path, Right, refuses};
-
-// The state of a coffer that is quarantined.
-const QUARANTINED: u8 = 2;
 
 // With what a thread calls that no process has started, as the recovery.
 const NOBODY: Cred = Cred {
@@ -65,7 +62,7 @@ impl Kernel {
                 path_len: mapped.path_len,
             };
         }
-        if root.state == QUARANTINED {
+        if root.state == RootState::Quarantined {
             return KernAnswer::Quarantined {
                 id: mapped.id,
                 path_len: mapped.path_len,

@@ -7,9 +7,8 @@ use Rattle.pm_words.specs.Word.{Word}
 use Rattle.tr_types.specs.KernelView.{pages_of}
 use Rattle.tr_types.specs.Journal.{kernel_word}
 use Rattle.tr_types.specs.Kernel.{spare_pages}
-use Rattle.tr_types.specs.KernelTables.{Coffer}
 use Rattle.tr_types.specs.PathMap.{added_pairs}
-use Rattle.tr_types.specs.KernelCalls.{Row, first_due, next_id, pages_short, owner_pairs, link_pair}
+use Rattle.tr_types.specs.KernelCalls.{Row, first_due, first_page, next_id, pages_short, owner_pairs, link_pair}
 use Rattle.tr_types.specs.KernelCalls as calls
 use Rattle.tr_types.specs.declared.permission.Cred.{Cred}
 use Rattle.zo_layout.specs.Layout.{page_at, page_kind}
@@ -17,9 +16,10 @@ use Rattle.tr_types.specs.declared.permission.Perm.{Perm}
 use Rattle.tr_types.specs.declared.kernel_call.KernAnswer.{KernAnswer}
 use Rattle.tr_types.specs.declared.kernel_call.KernAnswer.TheVariants.{NoPages, Made}
 use Rattle.kern_roots.specs.declared.types.Root.{Root}
+use Rattle.kern_roots.specs.declared.types.RootState.TheVariants.{Standing}
 use Rattle.kern_roots.specs.Changes.{new_coffer}
 use Rattle.kern_plans.specs.Plans.{Plan, Plans}
-use Rattle.kern_plans.specs.Parts.{Passes, entry_refusals, plan_of, fresh_of, fresh_pairs, fresh_plan}
+use Rattle.kern_plans.specs.Parts.{Passes, entry_refusals, entry_pairs, plan_of, fresh_pairs, fresh_plan}
 use Rattle.kern_plans.proofs.CheckLemmas.{passed_on, refused_plan}
 use Rattle.kern_plans.proofs.RowLemmas.{lets_pass, refuses_so, skips}
 
@@ -40,16 +40,13 @@ enough words path free passes is many =
     passed_on (entry_refusals words path) (pages_short words 2 ∷ []) passes
     ∙ skips (pages_short words 2) [] (lets_pass (nat_lt (length (spare_pages words)) 2) (NoPages 2 (length (spare_pages words))) (le-ltb (length (spare_pages words)) 2 (omega arith)))
 
-abbrev made : List Word → List ℕ → Perm → ℕ → ℕ → Coffer
-made words path perm control root = record { id = next_id words; path = path; perm = perm; state = 1; kind = 0; control = control; root = root }
-
 -- what is stored, and the plan
 pub fresh_is : (ws words : List Word) (id control root kind : ℕ) (path granted : List ℕ) (perm : Perm) (added slice pairs : List (ℕ × ℕ)) (link : ℕ × ℕ × ℕ)
     → ws ≡ words → id ≡ next_id ws
-    → (let given : Root = record { perm = perm; state = 1; kind = 0; control = control; root = root } in
+    → (let given : Root = record { perm = perm; state = Standing; kind = 0; control = control; root = root } in
     added ≡ added_pairs (pages_of ws) (kernel_word ws) (new_coffer (next_id ws) path given))
     → slice ≡ added → granted ≡ take 2 (spare_pages words) → control ≡ get_or granted 0 0 → root ≡ get_or granted 1 0 → pairs ≡ fresh_pairs ws id granted slice kind link
-    → (let plan : Plan = record { answer = Made id; granted = granted; pairs = pairs } in plan ≡ fresh_plan words (fresh_of words path perm) kind link)
+    → (let plan : Plan = record { answer = Made id; granted = granted; pairs = pairs } in plan ≡ fresh_plan words path perm kind link)
 fresh_is ws words id control root kind path granted perm added slice pairs link at id_is added_is slice_is granted_is control_is root_is pairs_is =
     λ i. record { answer = Made (number i); granted = granted_is i; pairs = stored i }
   where
@@ -62,14 +59,14 @@ fresh_is ws words id control root kind path granted perm added slice pairs link 
     second : root ≡ get_or (spare_pages words) 1 0
     second = root_is ∙ ap (λ (xs : List ℕ). get_or xs 1 0) granted_is ∙ get_or-take 2 (spare_pages words) 1 0 (omega arith)
 
-    entry : slice ≡ added_pairs (pages_of words) (kernel_word words) (fresh_of words path perm)
+    entry : slice ≡ entry_pairs words path perm (first_page (spare_pages words)) (get_or (spare_pages words) 1 0)
     entry =
         slice_is ∙ added_is
-        ∙ ap (λ (w : List Word). added_pairs (pages_of w) (kernel_word w) (made w path perm control root)) at
-        ∙ ap (λ (c : ℕ). added_pairs (pages_of words) (kernel_word words) (made words path perm c root)) first
-        ∙ ap (λ (r : ℕ). added_pairs (pages_of words) (kernel_word words) (made words path perm (get_or (spare_pages words) 0 0) r)) second
+        ∙ ap (λ (w : List Word). entry_pairs w path perm control root) at
+        ∙ ap (λ (c : ℕ). entry_pairs words path perm c root) first
+        ∙ ap (λ (r : ℕ). entry_pairs words path perm (first_page (spare_pages words)) r) second
 
-    stored : pairs ≡ fresh_pairs words (next_id words) (take 2 (spare_pages words)) (added_pairs (pages_of words) (kernel_word words) (fresh_of words path perm)) kind link
+    stored : pairs ≡ fresh_pairs words (next_id words) (take 2 (spare_pages words)) (entry_pairs words path perm (first_page (spare_pages words)) (get_or (spare_pages words) 1 0)) kind link
     stored =
         pairs_is
         ∙ ap (λ (w : List Word). fresh_pairs w id granted slice kind link) at
@@ -102,7 +99,7 @@ new_plan words cred path kind mode link = record {
 }
 
 pub new_plan_is : (words : List Word) (cred : Cred) (path : List ℕ) (kind mode : ℕ) (link : ℕ × ℕ × ℕ)
-    → (let perm : Perm = record { uid = cred.uid; gid = cred.gid; mode = mode } in fresh_plan words (fresh_of words path perm) kind link ≡ new_plan words cred path kind mode link)
+    → (let perm : Perm = record { uid = cred.uid; gid = cred.gid; mode = mode } in fresh_plan words path perm kind link ≡ new_plan words cred path kind mode link)
 new_plan_is words cred path kind mode link = λ i. record {
   answer = Made (next_id words);
   granted = take 2 (spare_pages words);

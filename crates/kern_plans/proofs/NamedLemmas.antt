@@ -10,8 +10,11 @@ use Rattle.tr_types.specs.KernelTables.{Coffer, is_id, stands_in}
 use Rattle.tr_types.specs.KernelRules.{IsSoundKernel}
 use Rattle.tr_types.specs.Paths.{is_path_text}
 use Rattle.tr_types.specs.PathMap.{coffer_with, dropped_pairs}
+use Rattle.tr_types.specs.KernelCalls.{is_there_with, named, or_none}
+use Rattle.kern_roots.specs.Reading.{root_of}
 use Rattle.kern_roots.specs.Changes.{Changes, is_used}
 use Rattle.kern_roots.specs.Entries.{has_id, has_coffer, coffer_of}
+use Rattle.kern_roots.specs.declared.types.Root.{Root}
 use Rattle.kern_roots.specs.declared.types.RootsFault.{RootsFault}
 use Rattle.kern_roots.proofs.ReadingSound.{sound_entry}
 use Rattle.kern_roots.proofs.ReadingCoffers.{coffer_is, coffer_isnt}
@@ -29,6 +32,14 @@ is_text words id path sound is = by (has_coffer words id) refl
         let none = ap (λ (found : Option Coffer). option_map (λ (c : Coffer). c.path) found) (coffer_isnt (pages_of words) (kernel_word words) id missing) in
         let both : None ≡ Some path = sym none ∙ is in
         cc
+
+-- a coffer whose entry is answered is there, and the one that is named
+pub entry_named : (ws words : List Word) (id : ℕ) (root : Root) → ws ≡ words → Some root ≡ option_map root_of (coffer_with (coffers ws) id) → (is_there_with words id ≡ true) × (root ≡ root_of (named words id))
+entry_named ws words id root same is = by (coffer_with (coffers words) id) (is ∙ ap (λ (w : List Word). option_map root_of (coffer_with (coffers w) id)) same)
+  where
+    by : (found : Option Coffer) → Some root ≡ option_map root_of found → (is_some found ≡ true) × (root ≡ root_of (or_none found))
+    by None is = let both : Some root ≡ None = is in cc
+    by (Some c) is = let same : root ≡ root_of c = cc in (refl, same)
 
 -- a coffer that is there has a number of 1 to 256
 pub used_range : (pages : ℕ) (at : ℕ → ℕ) (id : ℕ) → is_used pages at id ≡ true → id ≤ 256

@@ -7,16 +7,16 @@ use Rattle.pm_words.specs.Word.{Word}
 use Rattle.tr_types.specs.KernelView.{pages_of}
 use Rattle.tr_types.specs.Journal.{kernel_word}
 use Rattle.tr_types.specs.Kernel.{spare_pages}
-use Rattle.tr_types.specs.KernelTables.{Coffer}
 use Rattle.tr_types.specs.PathMap.{added_pairs}
-use Rattle.tr_types.specs.KernelCalls.{first_due, next_id, pages_short}
+use Rattle.tr_types.specs.KernelCalls.{first_due, first_page, next_id, pages_short}
 use Rattle.tr_types.specs.declared.permission.Perm.{Perm}
 use Rattle.tr_types.specs.declared.kernel_call.KernAnswer.{KernAnswer}
 use Rattle.tr_types.specs.declared.kernel_call.KernAnswer.TheVariants.{NoPages, Made}
 use Rattle.kern_roots.specs.declared.types.Root.{Root}
+use Rattle.kern_roots.specs.declared.types.RootState.TheVariants.{Standing}
 use Rattle.kern_roots.specs.Changes.{new_coffer}
 use Rattle.kern_plans.specs.Plans.{Plan}
-use Rattle.kern_plans.specs.Parts.{entry_refusals, piece_of, piece_pairs, piece_plan}
+use Rattle.kern_plans.specs.Parts.{entry_refusals, entry_pairs, piece_pairs, piece_plan}
 use Rattle.kern_plans.proofs.CheckLemmas.{passed_on}
 use Rattle.kern_plans.proofs.RowLemmas.{lets_pass, refuses_so, skips}
 
@@ -42,16 +42,13 @@ some_free words path passes some =
     passed_on (entry_refusals words path) (pages_short words 1 ∷ []) passes
     ∙ skips (pages_short words 1) [] (lets_pass (nat_lt (length (spare_pages words)) 1) (NoPages 1 (length (spare_pages words))) (le-ltb (length (spare_pages words)) 1 (some_of_all (spare_pages words) some)))
 
-abbrev made : List Word → List ℕ → Perm → ℕ → ℕ → Coffer
-made words path perm control root = record { id = next_id words; path = path; perm = perm; state = 1; kind = 0; control = control; root = root }
-
 -- what is stored, and the plan
 pub piece_is : (ws words : List Word) (id control root : ℕ) (path pages granted : List ℕ) (perm : Perm) (added slice pairs : List (ℕ × ℕ)) (link : ℕ × ℕ × ℕ)
     → ws ≡ words → id ≡ next_id ws
-    → (let given : Root = record { perm = perm; state = 1; kind = 0; control = control; root = root } in
+    → (let given : Root = record { perm = perm; state = Standing; kind = 0; control = control; root = root } in
     added ≡ added_pairs (pages_of ws) (kernel_word ws) (new_coffer (next_id ws) path given))
     → slice ≡ added → granted ≡ take 1 (spare_pages words) → control ≡ get_or granted 0 0 → root ≡ get_or pages 0 0 → pairs ≡ piece_pairs ws id pages granted slice link
-    → (let plan : Plan = record { answer = Made id; granted = granted; pairs = pairs } in plan ≡ piece_plan words (piece_of words path perm pages) pages link)
+    → (let plan : Plan = record { answer = Made id; granted = granted; pairs = pairs } in plan ≡ piece_plan words path perm pages link)
 piece_is ws words id control root path pages granted perm added slice pairs link at id_is added_is slice_is granted_is control_is root_is pairs_is =
     λ i. record { answer = Made (number i); granted = granted_is i; pairs = stored i }
   where
@@ -61,14 +58,14 @@ piece_is ws words id control root path pages granted perm added slice pairs link
     first : control ≡ get_or (spare_pages words) 0 0
     first = control_is ∙ ap (λ (xs : List ℕ). get_or xs 0 0) granted_is ∙ get_or-take 1 (spare_pages words) 0 0 (omega arith)
 
-    entry : slice ≡ added_pairs (pages_of words) (kernel_word words) (piece_of words path perm pages)
+    entry : slice ≡ entry_pairs words path perm (first_page (spare_pages words)) (first_page pages)
     entry =
         slice_is ∙ added_is
-        ∙ ap (λ (w : List Word). added_pairs (pages_of w) (kernel_word w) (record { id = next_id w; path = path; perm = perm; state = 1; kind = 0; control = control; root = root })) at
-        ∙ ap (λ (c : ℕ). added_pairs (pages_of words) (kernel_word words) (made words path perm c root)) first
-        ∙ ap (λ (r : ℕ). added_pairs (pages_of words) (kernel_word words) (made words path perm (get_or (spare_pages words) 0 0) r)) root_is
+        ∙ ap (λ (w : List Word). entry_pairs w path perm control root) at
+        ∙ ap (λ (c : ℕ). entry_pairs words path perm c root) first
+        ∙ ap (λ (r : ℕ). entry_pairs words path perm (first_page (spare_pages words)) r) root_is
 
-    stored : pairs ≡ piece_pairs words (next_id words) pages (take 1 (spare_pages words)) (added_pairs (pages_of words) (kernel_word words) (piece_of words path perm pages)) link
+    stored : pairs ≡ piece_pairs words (next_id words) pages (take 1 (spare_pages words)) (entry_pairs words path perm (first_page (spare_pages words)) (first_page pages)) link
     stored =
         pairs_is
         ∙ ap (λ (w : List Word). piece_pairs w id pages granted slice link) at

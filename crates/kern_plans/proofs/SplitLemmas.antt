@@ -12,7 +12,7 @@ use Rattle.tr_types.specs.declared.kernel_call.Holder.{Holder}
 use Rattle.tr_types.specs.declared.kernel_call.KernAnswer.{KernAnswer}
 use Rattle.tr_types.specs.declared.kernel_call.KernAnswer.TheVariants.{Same, Made}
 use Rattle.kern_plans.specs.Plans.{Plan, Plans}
-use Rattle.kern_plans.specs.Parts.{Passes, entry_refusals, piece_refusals, piece_of, piece_pairs, piece_plan}
+use Rattle.kern_plans.specs.Parts.{Passes, entry_refusals, linking_of, piece_refusals, piece_pairs, piece_plan}
 use Rattle.kern_plans.proofs.CheckLemmas.{passed_on}
 use Rattle.kern_plans.proofs.MoveLemmas.{plan_stopped, plan_from, plan_of_two, few_first}
 
@@ -24,7 +24,7 @@ abbrev other_row : Callers → List Word → List Holder → ℕ → ℕ → ℕ
 other_row callers words holders thread now id path pages mode link guard = record {
   refusals =
       split_refused callers words holders thread id
-      ++ (piece_refusals words now id path (control_and_root words id) pages link guard ++ (entry_refusals words path ++ pages_short words 1 ∷ []));
+      ++ (piece_refusals words now id path (control_and_root words id) pages (linking_of link guard) ++ (entry_refusals words path ++ pages_short words 1 ∷ []));
   answer = Made (next_id words);
   granted = take 1 (spare_pages words);
   pairs = piece_pairs words (next_id words) pages (take 1 (spare_pages words)) (added_pairs (pages_of words) (kernel_word words) (split_coffer words id path pages mode)) link;
@@ -39,7 +39,7 @@ split_stopped callers words holders thread now id path pages mode link guard ref
     plan_of_two (is_same_mode words id mode) (same_row callers words holders thread id) (other_row callers words holders thread now id path pages mode link guard) result
     (λ is. plan_stopped (Unit {0}) (same_row callers words holders thread id) [] (split_refused callers words holders thread id) [] refusal given result refl err same refl refused)
     (λ isnt. plan_stopped (Unit {0}) (other_row callers words holders thread now id path pages mode link guard) [] (split_refused callers words holders thread id)
-    (piece_refusals words now id path (control_and_root words id) pages link guard ++ (entry_refusals words path ++ pages_short words 1 ∷ [])) refusal given result refl err same refl refused)
+    (piece_refusals words now id path (control_and_root words id) pages (linking_of link guard) ++ (entry_refusals words path ++ pages_short words 1 ∷ [])) refusal given result refl err same refl refused)
 
 -- the coffer has the mode
 pub split_same : (callers : Callers) (words : List Word) (holders : List Holder) (thread now id : ℕ) (path pages : List ℕ) (mode : ℕ) (link : ℕ × ℕ × ℕ) (guard : ℕ × ℕ)
@@ -60,26 +60,26 @@ split_same callers words holders thread now id path pages mode link guard plan p
 pub split_refused_later : (callers : Callers) (words : List Word) (holders : List Holder) (thread now id : ℕ) (path pages : List ℕ) (mode : ℕ) (link : ℕ × ℕ × ℕ) (guard : ℕ × ℕ)
     (refusal given : KernAnswer) (result : Result Plan KernAnswer) → first_due (split_refused callers words holders thread id) ≡ None → ((named words id).perm.mode ≡ mode → ⊥)
     → result ≡ Err given → given ≡ refusal
-    → Passes {X = Unit {0}} (piece_refusals words now id path (control_and_root words id) pages link guard) (Err refusal)
+    → Passes {X = Unit {0}} (piece_refusals words now id path (control_and_root words id) pages (linking_of link guard)) (Err refusal)
     → Plans (split_row callers words holders thread now id path pages mode link guard) result
 split_refused_later callers words holders thread now id path pages mode link guard refusal given result passes other err same refused =
     plan_of_two (is_same_mode words id mode) (same_row callers words holders thread id) (other_row callers words holders thread now id path pages mode link guard) result
     (λ is. absurd (other (eqb-true (named words id).perm.mode mode is)))
     (λ isnt. plan_stopped (Unit {0}) (other_row callers words holders thread now id path pages mode link guard) (split_refused callers words holders thread id)
-    (piece_refusals words now id path (control_and_root words id) pages link guard) (entry_refusals words path ++ pages_short words 1 ∷ []) refusal given result refl err same passes refused)
+    (piece_refusals words now id path (control_and_root words id) pages (linking_of link guard)) (entry_refusals words path ++ pages_short words 1 ∷ []) refusal given result refl err same passes refused)
 
 -- and where nothing does until then
 pub split_planned : (callers : Callers) (words : List Word) (holders : List Holder) (thread now id : ℕ) (path pages : List ℕ) (mode : ℕ) (link : ℕ × ℕ × ℕ) (guard : ℕ × ℕ)
     (perm : Perm) (result : Result Plan KernAnswer) → first_due (split_refused callers words holders thread id) ≡ None → ((named words id).perm.mode ≡ mode → ⊥)
-    → first_due (piece_refusals words now id path (control_and_root words id) pages link guard) ≡ None
+    → first_due (piece_refusals words now id path (control_and_root words id) pages (linking_of link guard)) ≡ None
     → (let new : Perm = record { uid = (named words id).perm.uid; gid = (named words id).perm.gid; mode = mode } in perm ≡ new)
-    → Passes (entry_refusals words path ++ pages_short words 1 ∷ []) result → IfOk result (λ plan. plan ≡ piece_plan words (piece_of words path perm pages) pages link)
+    → Passes (entry_refusals words path ++ pages_short words 1 ∷ []) result → IfOk result (λ plan. plan ≡ piece_plan words path perm pages link)
     → Plans (split_row callers words holders thread now id path pages mode link guard) result
 split_planned callers words holders thread now id path pages mode link guard perm result passes other checked perm_is room plan_is =
     plan_of_two (is_same_mode words id mode) (same_row callers words holders thread id) (other_row callers words holders thread now id path pages mode link guard) result
     (λ is. absurd (other (eqb-true (named words id).perm.mode mode is)))
     (λ isnt. plan_from (other_row callers words holders thread now id path pages mode link guard)
-    (split_refused callers words holders thread id ++ piece_refusals words now id path (control_and_root words id) pages link guard) (entry_refusals words path ++ pages_short words 1 ∷ [])
-    (piece_plan words (piece_of words path perm pages) pages link) result refl
-    (passed_on (split_refused callers words holders thread id) (piece_refusals words now id path (control_and_root words id) pages link guard) passes ∙ checked) room plan_is
-    (ap (λ (p : Perm). piece_plan words (piece_of words path p pages) pages link) perm_is) (few_first (spare_pages words)))
+    (split_refused callers words holders thread id ++ piece_refusals words now id path (control_and_root words id) pages (linking_of link guard)) (entry_refusals words path ++ pages_short words 1 ∷ [])
+    (piece_plan words path perm pages link) result refl
+    (passed_on (split_refused callers words holders thread id) (piece_refusals words now id path (control_and_root words id) pages (linking_of link guard)) passes ∙ checked) room plan_is
+    (ap (λ (p : Perm). piece_plan words path p pages link) perm_is) (few_first (spare_pages words)))

@@ -8,19 +8,17 @@ ghost use Rattle.kern_plans.specs.Parts.{plan_of};
 
 use crate::asked::Asked;
 use crate::giving::pass_pages;
-use crate::owning::{STANDS, owned};
+use crate::linking::Guard;
+use crate::owning::owned;
 use crate::planned::{Planned, stores};
 use crate::shrinking::{check_shrink, freed};
-use kern_roots::{RootsFault, set_perm, set_state};
+use kern_roots::{RootState, RootsFault, set_perm, set_state};
 use sqlite_items::Items;
 use std::alloc::{AllocError, Global};
 use tr_types::{KernAnswer, Pages, Perm};
 
 /// The number under which the recovery calls.
 const RECOVERY: u16 = 256;
-
-/// The state of a coffer that is quarantined.
-const QUARANTINED: u8 = 2;
 
 // The most pages that one call gives.
 const MOST_PAGES: u32 = 1024;
@@ -82,6 +80,10 @@ pub fn shrink(
     ensures { Plans (calls.shrink_row asked.now.words asked.now.holders asked.now.thread asked.now.tick id pages.now guard) result }
 {
     let pages = pages.as_slice();
+    let guard = Guard {
+        addr: guard.0,
+        word: guard.1,
+    };
     check_shrink(alloc, asked, id, pages, guard)?;
     match freed(alloc, asked, pages) {
         Ok(pairs) => Ok(Planned {
@@ -117,7 +119,11 @@ pub fn recover(alloc: Global, asked: &Asked, id: u16, ready: bool) -> Result<Pla
     if asked.thread() != RECOVERY {
         return Err(KernAnswer::NotHeld);
     }
-    let state = if ready { STANDS } else { QUARANTINED };
+    let state = if ready {
+        RootState::Standing
+    } else {
+        RootState::Quarantined
+    };
     match set_state(alloc, asked.words(), id, state) {
         Ok(pairs) => stores(alloc, pairs.as_slice()),
         Err(RootsFault::NoCoffer) => Err(KernAnswer::NoCoffer),

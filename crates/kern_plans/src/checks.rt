@@ -11,15 +11,16 @@ ghost use Rattle.tr_types.specs.KernelCalls.{Callers};
 ghost use Rattle.tr_types.specs.declared.kernel_call.KernAnswer.TheVariants as answer;
 ghost use Rattle.kern_roots.specs.Reading.{IsRefused};
 ghost use Rattle.kern_plans.specs.Asked.{HasCred};
-ghost use Rattle.kern_plans.specs.Parts.{Passes, refusal_of};
+ghost use Rattle.kern_plans.specs.Parts.{Passes, refusal_of, link_of, guard_of, linking_refusals};
 
 use crate::asked::Asked;
-use crate::moving::{Guard, Link};
+use crate::linking::{Guard, Link, Linking};
 use crate::owning::owned;
 use kern_roots::{RootsFault, above, children, entry_of, path_of};
 use std::alloc::{AllocError, Global};
 use std::collections::HashMap;
 use tr_types::{KernAnswer, Path};
+use zo_layout::{PAGE_BYTES, WORD_BYTES};
 
 /// The most bytes of a coffer's path.
 const MOST_PATH_BYTES: usize = 440;
@@ -45,10 +46,10 @@ pub(crate) fn owns_page(asked: &Asked, id: u16, page: u64) -> bool
 pub(crate) fn is_word_of(asked: &Asked, id: u16, addr: u64) -> bool
     ensures { result ≡ calls.is_word_of asked.now.words id addr }
 {
-    if addr % 8 != 0 {
+    if addr % WORD_BYTES != 0 {
         return false;
     }
-    owns_page(asked, id, addr / 4096)
+    owns_page(asked, id, addr / PAGE_BYTES)
 }
 
 /// The page of the first address that is no word of the coffer's.
@@ -57,7 +58,7 @@ pub(crate) fn bad_address_page(asked: &Asked, id: u16, addrs: &[u64]) -> Option<
 {
     for &addr in addrs {
         if !is_word_of(asked, id, addr) {
-            return Some(addr / 4096);
+            return Some(addr / PAGE_BYTES);
         }
     }
     None
@@ -152,23 +153,23 @@ fn is_expired(tick: u32, lease: u64) -> bool
 
 /// The guard's word is the one that is given, and no lease that has expired.
 pub(crate) fn check_guard(asked: &Asked, guard: Guard) -> Result<(), KernAnswer>
-    requires { IsAddress (length asked.now.words) guard.0 }
-    ensures { Passes (calls.guard_refused asked.now.words asked.now.tick guard ∷ []) result }
+    requires { IsAddress (length asked.now.words) guard.addr }
+    ensures { Passes (calls.guard_refused asked.now.words asked.now.tick (guard_of guard) ∷ []) result }
 {
-    let (addr, given) = guard;
+    let addr = guard.addr;
     let word = asked.words().load(addr);
-    let fails = word != given || is_expired(asked.tick, word);
+    let fails = word != guard.word || is_expired(asked.tick, word);
     refuse_where(fails, KernAnswer::GuardFailed { addr, word })
 }
 
 /// The link's word is the one that is given.
 pub(crate) fn check_link(asked: &Asked, link: Link) -> Result<(), KernAnswer>
-    requires { IsAddress (length asked.now.words) link.0 }
-    ensures { Passes (calls.link_refused asked.now.words link ∷ []) result }
+    requires { IsAddress (length asked.now.words) link.addr }
+    ensures { Passes (calls.link_refused asked.now.words (link_of link) ∷ []) result }
 {
-    let (addr, old, _new) = link;
+    let addr = link.addr;
     let word = asked.words().load(addr);
-    refuse_where(word != old, KernAnswer::LinkDiffers { addr, word })
+    refuse_where(word != link.old, KernAnswer::LinkDiffers { addr, word })
 }
 
 /// The link's and the guard's words are in pages of the parent's, the listed pages are as in
@@ -177,18 +178,17 @@ pub(crate) fn check_linking(
     alloc: Global,
     asked: &Asked,
     parent: u16,
-    link: Link,
-    guard: Guard,
+    linking: Linking,
     id: u16,
     kept: &[u32],
     pages: &[u32],
 ) -> Result<(), KernAnswer>
-    ensures { Passes (calls.pages_refused asked.now.words parent (calls.link_addr link ∷ guard.0 ∷ []) id kept.now pages.now
-        ∷ calls.guard_refused asked.now.words asked.now.tick guard ∷ calls.link_refused asked.now.words link ∷ []) result }
+    ensures { Passes (linking_refusals asked.now.words asked.now.tick parent linking id kept.now pages.now) result }
 {
-    check_pages(alloc, asked, parent, &[link.0, guard.0], id, kept, pages)?;
-    check_guard(asked, guard)?;
-    check_link(asked, link)
+    let addrs = [linking.link.addr, linking.guard.addr];
+    check_pages(alloc, asked, parent, &addrs, id, kept, pages)?;
+    check_guard(asked, linking.guard)?;
+    check_link(asked, linking.link)
 }
 
 /// Whether the path of a new coffer is bad: it is `/`, or has over 440 bytes, or its directory lies in

@@ -1,24 +1,21 @@
 // What a New checks and stores.
-ghost use Rattle.std.specs.Prelude.{◌≡◌, ◌<◌, ◌++◌, not, [], ◌∷◌, All, slice_index_or, IfOk};
+ghost use Rattle.std.specs.Prelude.{◌≡◌, ◌<◌, ◌++◌, not, [], ◌∷◌, All, IfOk};
 ghost use Rattle.tr_types.specs.KernelView.{pages_of};
 ghost use Rattle.tr_types.specs.KernelCalls as calls;
 ghost use Rattle.tr_types.specs.declared.kernel_call.KernAnswer.TheVariants as answer;
-ghost use Rattle.kern_plans.specs.Parts.{Passes, entry_refusals, fresh_of, fresh_pairs, fresh_plan};
+ghost use Rattle.kern_plans.specs.Parts.{Passes, entry_refusals, link_of, linking_refusals, fresh_pairs, fresh_plan};
 
 use crate::asked::Asked;
 use crate::checks::{check_linking, is_bad_new_path, refuse_where};
-use crate::giving::pass_pages;
-use crate::moving::{Guard, Link};
+use crate::giving::{page_of, pass_pages};
+use crate::linking::{Link, Linking};
 use crate::naming::new_entry;
 use crate::planned::Planned;
-use kern_roots::Root;
+use kern_roots::{Root, RootState};
 use pm_words::Words;
 use std::alloc::{AllocError, Global};
 use tr_types::{KernAnswer, Path, Perm};
 use zo_layout::{page_at, page_kind};
-
-/// The state of a coffer that stands.
-const STANDS: u8 = 1;
 
 /// The pages of a new coffer: its control page and its root page.
 const NEW_PAGES: u32 = 2;
@@ -30,20 +27,18 @@ pub fn check_new(
     asked: &Asked,
     parent: u16,
     path: &Path,
-    link: Link,
-    guard: Guard,
+    linking: Linking,
 ) -> Result<(), KernAnswer>
     requires { calls.IsPathText path.now }
     ensures { Passes (calls.refused_where (not (calls.holds_for_writing asked.now.thread parent asked.now.holders)) answer.NotHeld
         ∷ calls.refused_where (calls.is_bad_new_path asked.now.words parent path.now) answer.BadPath
-        ∷ calls.pages_refused asked.now.words parent (calls.link_addr link ∷ guard.0 ∷ []) parent [] []
-        ∷ calls.guard_refused asked.now.words asked.now.tick guard ∷ calls.link_refused asked.now.words link ∷ []) result }
+        ∷ linking_refusals asked.now.words asked.now.tick parent linking parent [] []) result }
 {
     let held = asked.holds_for_writing(parent);
     refuse_where(!held, KernAnswer::NotHeld)?;
     let bad = is_bad_new_path(asked, parent, path);
     refuse_where(bad, KernAnswer::BadPath)?;
-    check_linking(alloc, asked, parent, link, guard, parent, &[], &[])
+    check_linking(alloc, asked, parent, linking, parent, &[], &[])
 }
 
 /// The plan by which the two least free pages, as the control page and the root page, become a coffer of
@@ -58,14 +53,14 @@ pub fn fresh(
     link: Link,
 ) -> Result<Planned, KernAnswer>
     ensures refused { Passes (entry_refusals asked.now.words path.now ++ calls.pages_short asked.now.words 2 ∷ []) result }
-    ensures plan { IfOk result (λ plan. plan ≡ fresh_plan asked.now.words (fresh_of asked.now.words path.now perm) kind link) }
+    ensures plan { IfOk result (λ plan. plan ≡ fresh_plan asked.now.words path.now perm kind (link_of link)) }
 {
     let Ok(granted) = asked.first_free(NEW_PAGES) else {
         return Err(KernAnswer::NoMemory);
     };
     let root = Root {
         perm,
-        state: STANDS,
+        state: RootState::Standing,
         kind: 0,
         control: page_of(&granted, 0),
         root: page_of(&granted, 1),
@@ -89,16 +84,6 @@ pub fn fresh(
     }
 }
 
-// One of some pages, or 0.
-fn page_of(pages: &[u32], i: usize) -> u32
-    ensures { result ≡ slice_index_or pages.now i 0 }
-{
-    match pages.get(i) {
-        Some(&page) => page,
-        None => 0,
-    }
-}
-
 // The words that are stored where a coffer of this number comes, with these words of its entry.
 fn fresh_pairs(
     alloc: Global,
@@ -110,13 +95,12 @@ fn fresh_pairs(
     link: Link,
 ) -> Result<Vec<(u64, u64)>, AllocError>
     requires { All (λ page. page < pages_of words.now) granted.now }
-    ensures { IfOk result (λ pairs. pairs.items ≡ fresh_pairs words.now id granted.now added.now kind link) }
+    ensures { IfOk result (λ pairs. pairs.items ≡ fresh_pairs words.now id granted.now added.now kind (link_of link)) }
 {
-    let (addr, _old, new) = link;
     let mut pairs = Vec::new(alloc);
     pass_pages(&mut pairs, words, granted, id)?;
     pairs.extend_from_slice(added)?;
     pairs.push((page_kind(page_at(page_of(granted, 1))), u64::from(kind)))?;
-    pairs.push((addr, new))?;
+    pairs.push((link.addr, link.new))?;
     Ok(pairs)
 }

@@ -1,5 +1,5 @@
 // Pages that come to an owner.
-ghost use Rattle.std.specs.Prelude.{◌≡◌, ◌<◌, ◌++◌, All, OnOk};
+ghost use Rattle.std.specs.Prelude.{◌≡◌, ◌<◌, ◌++◌, slice_index_or, All, OnOk};
 ghost use Rattle.tr_types.specs.KernelView.{pages_of};
 ghost use Rattle.tr_types.specs.KernelCalls as calls;
 
@@ -9,6 +9,16 @@ use zo_layout::owner_word;
 
 /// The owner of a page that is nobody's.
 pub const NOBODY: u16 = 0;
+
+/// One of some pages, or 0.
+pub fn page_of(pages: &[u32], i: usize) -> u32
+    ensures { result ≡ slice_index_or pages.now i 0 }
+{
+    match pages.get(i) {
+        Some(&page) => page,
+        None => 0,
+    }
+}
 
 /// Adds the pairs by which these pages become the owner's, 0 for nobody's.
 pub fn pass_pages(

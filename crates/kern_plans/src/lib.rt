@@ -8,6 +8,7 @@ mod checks;
 mod coming;
 mod giving;
 mod going;
+mod linking;
 mod looking;
 mod merging;
 mod moving;
@@ -22,6 +23,3 @@ pub use changing::{enlarge, mode, recover, shrink};
 pub use looking::find;
 pub use moving::{delete, merge, new, split};
 pub use planned::Planned;
-
-#[cfg(test)]
-mod tests;

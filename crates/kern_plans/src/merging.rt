@@ -7,12 +7,12 @@ ghost use Rattle.tr_types.specs.PathMap.{dropped_pairs};
 ghost use Rattle.tr_types.specs.KernelCalls as calls;
 ghost use Rattle.tr_types.specs.KernelCalls.{Callers};
 ghost use Rattle.kern_plans.specs.Asked.{HasCred};
-ghost use Rattle.kern_plans.specs.Parts.{Passes, merged_pairs};
+ghost use Rattle.kern_plans.specs.Parts.{Passes, link_of, guard_of, merged_pairs};
 
 use crate::asked::Asked;
 use crate::checks::{check_leaving, check_linking, count_each, count_of};
 use crate::giving::{NOBODY, pass_pages};
-use crate::moving::{Guard, Link};
+use crate::linking::{Link, Linking};
 use crate::owning::named_root;
 use kern_roots::{RootsFault, drop_entry};
 use pm_words::Words;
@@ -26,16 +26,15 @@ pub fn check_merge(
     child: u16,
     parent: u16,
     pages: &[u32],
-    link: Link,
-    guard: Guard,
+    linking: Linking,
 ) -> Result<(), KernAnswer>
     ensures refused { (callers : Callers) → HasCred callers asked.now
-        → Passes (calls.merge_row callers asked.now.words asked.now.holders asked.now.thread asked.now.tick child parent pages.now link guard).refusals result }
+        → Passes (calls.merge_row callers asked.now.words asked.now.holders asked.now.thread asked.now.tick child parent pages.now (link_of linking.link) (guard_of linking.guard)).refusals result }
     ensures inside { OnOk result (All (λ page. page < pages_of asked.now.words) pages.now) }
 {
     check_leaving(alloc, asked, child, parent)?;
     let kept = [named_root(asked, child).control];
-    check_linking(alloc, asked, parent, link, guard, child, &kept, pages)
+    check_linking(alloc, asked, parent, linking, child, &kept, pages)
 }
 
 /// The words by which a coffer goes into its parent: the listed pages become the parent's, its others
@@ -50,7 +49,7 @@ pub fn merged(
 ) -> Result<Vec<(u64, u64)>, RootsFault>
     requires { All (λ page. page < pages_of asked.now.words) pages.now }
     ensures { IfOk result (λ pairs. pairs.items ≡ merged_pairs asked.now.words parent pages.now (calls.unlisted pages.now (coffer_pages asked.now.words child))
-        (dropped_pairs (pages_of asked.now.words) (kernel_word asked.now.words) child) link) }
+        (dropped_pairs (pages_of asked.now.words) (kernel_word asked.now.words) child) (link_of link)) }
 {
     let words = asked.words();
     let dropped = drop_entry(alloc, words, child)?;
@@ -79,14 +78,13 @@ fn merged_pairs(
 ) -> Result<Vec<(u64, u64)>, AllocError>
     requires listed { All (λ page. page < pages_of words.now) pages.now }
     requires others { All (λ page. page < pages_of words.now) others.now }
-    ensures { IfOk result (λ pairs. pairs.items ≡ merged_pairs words.now parent pages.now others.now dropped.now link) }
+    ensures { IfOk result (λ pairs. pairs.items ≡ merged_pairs words.now parent pages.now others.now dropped.now (link_of link)) }
 {
     let mut pairs = Vec::new(alloc);
     pass_pages(&mut pairs, words, pages, parent)?;
     pass_pages(&mut pairs, words, others, NOBODY)?;
     pairs.extend_from_slice(dropped)?;
-    let (addr, _old, new) = link;
-    pairs.push((addr, new))?;
+    pairs.push((link.addr, link.new))?;
     Ok(pairs)
 }
 

@@ -1,4 +1,7 @@
 // Calls by which a coffer comes or goes.
+//
+// A link is the byte address of a word of the parent's, the word that must stand there, and the word that
+// comes there. A guard is the byte address of another one, and the word that must stand there.
 ghost use Rattle.std.specs.Prelude.{◌≡◌, ◌<◌, length, true};
 ghost use Rattle.tr_types.specs.KernelCalls.{Callers, IsPathText};
 ghost use Rattle.tr_types.specs.KernelCalls as calls;
@@ -9,6 +12,7 @@ use crate::asked::Asked;
 use crate::checks::refusal_of;
 use crate::coming::{check_new, fresh};
 use crate::going::{check_delete, delete_pairs};
+use crate::linking::Linking;
 use crate::merging::{check_merge, merged};
 use crate::owning::held_and_owned;
 use crate::planned::Planned;
@@ -16,13 +20,6 @@ use crate::splitting::{check_piece, piece};
 use kern_roots::drop_entry;
 use std::alloc::Global;
 use tr_types::{KernAnswer, Pages, Path, Perm};
-
-/// A word of the parent's by which a coffer is linked: its byte address, the word that stands there, and
-/// the word that comes there.
-pub type Link = (u64, u64, u64);
-
-/// A word of the parent's by its byte address, and the word that it must have.
-pub type Guard = (u64, u64);
 
 /// A new coffer of two pages, with the caller's uid and gid and this mode, linked in its parent.
 pub fn new(
@@ -32,21 +29,22 @@ pub fn new(
     path: &Path,
     kind: u8,
     mode: u16,
-    link: Link,
-    guard: Guard,
+    link: (u64, u64, u64),
+    guard: (u64, u64),
 ) -> Result<Planned, KernAnswer>
     requires { IsPathText path.now }
     ensures { (callers : Callers) → HasCred callers asked.now
         → Plans (calls.new_row callers asked.now.words asked.now.holders asked.now.thread asked.now.tick parent path.now kind mode link guard) result }
 {
-    check_new(alloc, asked, parent, path, link, guard)?;
+    let linking = Linking::new(link, guard);
+    check_new(alloc, asked, parent, path, linking)?;
     let cred = asked.cred();
     let perm = Perm {
         uid: cred.uid,
         gid: cred.gid,
         mode,
     };
-    fresh(alloc, asked, path, perm, kind, link)
+    fresh(alloc, asked, path, perm, kind, linking.link)
 }
 
 /// A coffer goes: its pages are free, and the link is stored.
@@ -55,15 +53,16 @@ pub fn delete(
     asked: &Asked,
     id: u16,
     parent: u16,
-    link: Link,
-    guard: Guard,
+    link: (u64, u64, u64),
+    guard: (u64, u64),
 ) -> Result<Planned, KernAnswer>
     ensures { (callers : Callers) → HasCred callers asked.now
         → Plans (calls.delete_row callers asked.now.words asked.now.holders asked.now.thread asked.now.tick id parent link guard) result }
 {
-    check_delete(alloc, asked, id, parent, link, guard)?;
+    let linking = Linking::new(link, guard);
+    check_delete(alloc, asked, id, parent, linking)?;
     let dropped = drop_entry(alloc, asked.words(), id).map_err(refusal_of)?;
-    match delete_pairs(alloc, asked, id, dropped.as_slice(), link) {
+    match delete_pairs(alloc, asked, id, dropped.as_slice(), linking.link) {
         Ok(pairs) => Ok(Planned {
             answer: KernAnswer::Done,
             granted: Vec::new(alloc),
@@ -81,8 +80,8 @@ pub fn split(
     path: &Path,
     pages: &Pages,
     mode: u16,
-    link: Link,
-    guard: Guard,
+    link: (u64, u64, u64),
+    guard: (u64, u64),
 ) -> Result<Planned, KernAnswer>
     requires path { IsPathText path.now }
     requires pages { 0 < length pages.now }
@@ -98,9 +97,10 @@ pub fn split(
         });
     }
     let pages = pages.as_slice();
-    check_piece(alloc, asked, id, &whole, path, pages, link, guard)?;
+    let linking = Linking::new(link, guard);
+    check_piece(alloc, asked, id, &whole, path, pages, linking)?;
     let perm = Perm { mode, ..whole.perm };
-    piece(alloc, asked, path, perm, pages, link)
+    piece(alloc, asked, path, perm, pages, linking.link)
 }
 
 /// A coffer goes into its parent: the listed pages become the parent's, its others are free.
@@ -110,15 +110,16 @@ pub fn merge(
     child: u16,
     parent: u16,
     pages: &Pages,
-    link: Link,
-    guard: Guard,
+    link: (u64, u64, u64),
+    guard: (u64, u64),
 ) -> Result<Planned, KernAnswer>
     ensures { (callers : Callers) → HasCred callers asked.now
         → Plans (calls.merge_row callers asked.now.words asked.now.holders asked.now.thread asked.now.tick child parent pages.now link guard) result }
 {
     let pages = pages.as_slice();
-    check_merge(alloc, asked, child, parent, pages, link, guard)?;
-    match merged(alloc, asked, child, parent, pages, link) {
+    let linking = Linking::new(link, guard);
+    check_merge(alloc, asked, child, parent, pages, linking)?;
+    match merged(alloc, asked, child, parent, pages, linking.link) {
         Ok(pairs) => Ok(Planned {
             answer: KernAnswer::Done,
             granted: Vec::new(alloc),

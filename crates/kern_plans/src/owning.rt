@@ -1,17 +1,14 @@
 // The entry of a coffer, and whether the caller may act as its owner.
-ghost use Rattle.std.specs.Prelude.{◌≡◌, IfOk};
+ghost use Rattle.std.specs.Prelude.{◌≡◌, [], ◌∷◌, IfOk};
 ghost use Rattle.tr_types.specs.KernelCalls.{Callers};
 ghost use Rattle.tr_types.specs.KernelCalls as calls;
 ghost use Rattle.kern_roots.specs.Reading.{root_of};
 ghost use Rattle.kern_plans.specs.Asked.{HasCred};
-ghost use Rattle.kern_plans.specs.Parts.{Passes};
+ghost use Rattle.kern_plans.specs.Parts.{Passes, own_refused};
 
 use crate::asked::Asked;
-use kern_roots::{Root, entry_of};
+use kern_roots::{Root, RootState, entry_of};
 use tr_types::{KernAnswer, Perm, Right, refuses};
-
-/// The state of a coffer that stands.
-pub const STANDS: u8 = 1;
 
 /// What stands for the entry of a coffer that isn't there.
 const NO_ROOT: Root = Root {
@@ -20,7 +17,7 @@ const NO_ROOT: Root = Root {
         gid: 0,
         mode: 0,
     },
-    state: 0,
+    state: RootState::Standing,
     kind: 0,
     control: 0,
     root: 0,
@@ -35,13 +32,7 @@ pub fn owned(asked: &Asked, id: u16) -> Result<Root, KernAnswer>
     let Some(root) = entry_of(asked.words(), id) else {
         return Err(KernAnswer::NoCoffer);
     };
-    if refuses(&root.perm, &asked.cred(), Right::OWN) {
-        return Err(KernAnswer::Denied {
-            right: Right::OWN,
-            id: 0,
-            path_len: 0,
-        });
-    }
+    check_own(asked, &root)?;
     Ok(root)
 }
 
@@ -55,6 +46,14 @@ pub fn held_and_owned(asked: &Asked, id: u16) -> Result<Root, KernAnswer>
         return Err(KernAnswer::NotHeld);
     }
     let root = named_root(asked, id);
+    check_own(asked, &root)?;
+    Ok(root)
+}
+
+// The caller has the right Own on a coffer, which its owner and uid 0 have. Else `Denied`.
+fn check_own(asked: &Asked, root: &Root) -> Result<(), KernAnswer>
+    ensures { (callers : Callers) → HasCred callers asked.now → Passes (own_refused callers asked.now.thread root.now.perm ∷ []) result }
+{
     if refuses(&root.perm, &asked.cred(), Right::OWN) {
         return Err(KernAnswer::Denied {
             right: Right::OWN,
@@ -62,7 +61,7 @@ pub fn held_and_owned(asked: &Asked, id: u16) -> Result<Root, KernAnswer>
             path_len: 0,
         });
     }
-    Ok(root)
+    Ok(())
 }
 
 /// The entry of a coffer, or what stands for it where it isn't there.

@@ -2,12 +2,12 @@
 ghost use Rattle.std.specs.Prelude.{◌≡◌, ◌<◌, All, IfOk};
 ghost use Rattle.tr_types.specs.KernelView.{pages_of};
 ghost use Rattle.tr_types.specs.KernelCalls as calls;
-ghost use Rattle.kern_plans.specs.Parts.{Passes};
+ghost use Rattle.kern_plans.specs.Parts.{Passes, guard_of};
 
 use crate::asked::Asked;
 use crate::checks::{check_guard, check_pages, control_and_root, refuse_where};
 use crate::giving::{NOBODY, pass_pages};
-use crate::moving::Guard;
+use crate::linking::Guard;
 use std::alloc::{AllocError, Global};
 use tr_types::KernAnswer;
 
@@ -20,12 +20,12 @@ pub fn check_shrink(
     pages: &[u32],
     guard: Guard,
 ) -> Result<(), KernAnswer>
-    ensures { Passes (calls.shrink_row asked.now.words asked.now.holders asked.now.thread asked.now.tick id pages.now guard).refusals result }
+    ensures { Passes (calls.shrink_row asked.now.words asked.now.holders asked.now.thread asked.now.tick id pages.now (guard_of guard)).refusals result }
 {
     let held = asked.holds_for_writing(id);
     refuse_where(!held, KernAnswer::NotHeld)?;
     let kept = control_and_root(asked, id);
-    check_pages(alloc, asked, id, &[guard.0], id, &kept, pages)?;
+    check_pages(alloc, asked, id, &[guard.addr], id, &kept, pages)?;
     check_guard(asked, guard)
 }
 

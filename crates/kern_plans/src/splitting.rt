@@ -1,17 +1,16 @@
 // A coffer that is split off another.
-ghost use Rattle.std.specs.Prelude.{◌≡◌, ◌<◌, ◌++◌, [], ◌∷◌, All, length, slice_index_or, IfOk, OnOk};
+ghost use Rattle.std.specs.Prelude.{◌≡◌, ◌<◌, ◌++◌, [], ◌∷◌, All, length, IfOk, OnOk};
 ghost use Rattle.tr_types.specs.KernelView.{pages_of};
 ghost use Rattle.tr_types.specs.KernelCalls as calls;
-ghost use Rattle.kern_plans.specs.Parts.{Passes, entry_refusals, piece_refusals, piece_of, piece_pairs, piece_plan};
+ghost use Rattle.kern_plans.specs.Parts.{Passes, entry_refusals, link_of, piece_refusals, piece_pairs, piece_plan};
 
 use crate::asked::Asked;
 use crate::checks::{check_linking, is_bad_new_path, refuse_where};
-use crate::giving::pass_pages;
-use crate::moving::{Guard, Link};
+use crate::giving::{page_of, pass_pages};
+use crate::linking::{Link, Linking};
 use crate::naming::new_entry;
-use crate::owning::STANDS;
 use crate::planned::Planned;
-use kern_roots::Root;
+use kern_roots::{Root, RootState};
 use pm_words::Words;
 use std::alloc::{AllocError, Global};
 use tr_types::{KernAnswer, Path, Perm};
@@ -29,15 +28,14 @@ pub fn check_piece(
     whole: &Root,
     path: &Path,
     pages: &[u32],
-    link: Link,
-    guard: Guard,
+    linking: Linking,
 ) -> Result<(), KernAnswer>
     requires { calls.IsPathText path.now }
-    ensures { Passes (piece_refusals asked.now.words asked.now.tick id path.now (whole.now.control ∷ whole.now.root ∷ []) pages.now link guard) result }
+    ensures { Passes (piece_refusals asked.now.words asked.now.tick id path.now (whole.now.control ∷ whole.now.root ∷ []) pages.now linking) result }
 {
     refuse_where(is_bad_new_path(asked, id, path), KernAnswer::BadPath)?;
     let kept = [whole.control, whole.root];
-    check_linking(alloc, asked, id, link, guard, id, &kept, pages)
+    check_linking(alloc, asked, id, linking, id, &kept, pages)
 }
 
 /// The plan by which the listed pages, and the least free page as the control page, become a coffer of
@@ -53,17 +51,17 @@ pub fn piece(
     requires listed { All (λ page. page < pages_of asked.now.words) pages.now }
     requires some { 0 < length pages.now }
     ensures refused { Passes (entry_refusals asked.now.words path.now ++ calls.pages_short asked.now.words 1 ∷ []) result }
-    ensures plan { IfOk result (λ plan. plan ≡ piece_plan asked.now.words (piece_of asked.now.words path.now perm pages.now) pages.now link) }
+    ensures plan { IfOk result (λ plan. plan ≡ piece_plan asked.now.words path.now perm pages.now (link_of link)) }
 {
     let Ok(granted) = asked.first_free(1) else {
         return Err(KernAnswer::NoMemory);
     };
     let root = Root {
         perm,
-        state: STANDS,
+        state: RootState::Standing,
         kind: 0,
-        control: first_of(&granted),
-        root: first_of(pages),
+        control: page_of(&granted, 0),
+        root: page_of(pages, 0),
     };
     let words = asked.words();
     let (id, added) = new_entry(alloc, words, path, &root)?;
@@ -80,16 +78,6 @@ pub fn piece(
     }
 }
 
-// The first of some pages, or 0.
-fn first_of(pages: &[u32]) -> u32
-    ensures { result ≡ slice_index_or pages.now 0 0 }
-{
-    match pages.first() {
-        Some(&page) => page,
-        None => 0,
-    }
-}
-
 // The words that are stored where a coffer of this number is split off, with these words of its entry.
 fn piece_pairs(
     alloc: Global,
@@ -103,15 +91,14 @@ fn piece_pairs(
     requires listed { All (λ page. page < pages_of words.now) pages.now }
     requires some { 0 < length pages.now }
     requires free { All (λ page. page < pages_of words.now) granted.now }
-    ensures { IfOk result (λ pairs. pairs.items ≡ piece_pairs words.now id pages.now granted.now added.now link) }
+    ensures { IfOk result (λ pairs. pairs.items ≡ piece_pairs words.now id pages.now granted.now added.now (link_of link)) }
 {
     let mut pairs = Vec::new(alloc);
     pass_pages(&mut pairs, words, pages, id)?;
     pass_pages(&mut pairs, words, granted, id)?;
     pairs.extend_from_slice(added)?;
-    clear_directory(&mut pairs, words, first_of(pages))?;
-    let (addr, _old, new) = link;
-    pairs.push((addr, new))?;
+    clear_directory(&mut pairs, words, page_of(pages, 0))?;
+    pairs.push((link.addr, link.new))?;
     Ok(pairs)
 }
 

@@ -8,6 +8,7 @@ use Rattle.std.proofs.lemmas.List.FromFn.{map-range_with_len_more, length-map-ra
 use Rattle.zo_layout.specs.Layout.{word_of, coffer_entry, coffer_next, path_bucket, bucket_of}
 use Rattle.tr_types.specs.PathMap as paths
 use Rattle.kern_roots.specs.declared.types.Root.{Root}
+use Rattle.kern_roots.specs.Reading.{state_word}
 use Rattle.kern_roots.specs.Changes.{new_coffer}
 
 -- words in their places, from place n on
@@ -111,12 +112,12 @@ entry_words_more text ws front i w e h =
     ∙ ap (λ (xs : List ℕ). front ++ xs) (sym (map-range_with_len_more (text_word text) 0 i i at))
 
 pub entry_words_are : (id next i : ℕ) (text : List ℕ) (given : Root) (ws front : List ℕ) → i ≡ 55
-    → front ≡ given.state ∷ given.perm.uid ∷ given.perm.gid ∷ given.perm.mode ∷ given.control ∷ given.root ∷ next ∷ length text ∷ given.kind ∷ []
+    → front ≡ state_word given.state ∷ given.perm.uid ∷ given.perm.gid ∷ given.perm.mode ∷ given.control ∷ given.root ∷ next ∷ length text ∷ given.kind ∷ []
     → ws ≡ front ++ map (text_word text) (range_with_len 0 i) → ws ≡ paths.entry_words (new_coffer id text given) next
 entry_words_are id next i text given ws front e f h =
     h
     ∙ ap (λ (xs : List ℕ). xs ++ map (text_word text) (range_with_len 0 i)) f
-    ∙ ap (λ (k : ℕ). (given.state ∷ given.perm.uid ∷ given.perm.gid ∷ given.perm.mode ∷ given.control ∷ given.root ∷ next ∷ length text ∷ given.kind ∷ []) ++ map (text_word text) (range_with_len 0 k)) e
+    ∙ ap (λ (k : ℕ). (state_word given.state ∷ given.perm.uid ∷ given.perm.gid ∷ given.perm.mode ∷ given.control ∷ given.root ∷ next ∷ length text ∷ given.kind ∷ []) ++ map (text_word text) (range_with_len 0 k)) e
 
 pub length_entry_words : (i : ℕ) (text ws front : List ℕ) → i ≡ 55 → length front ≡ 9 → ws ≡ front ++ map (text_word text) (range_with_len 0 i) → length ws ≡ 64
 length_entry_words i text ws front e f h =

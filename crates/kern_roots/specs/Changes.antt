@@ -6,6 +6,7 @@ use Rattle.tr_types.specs.PathMap.{coffer_at_path, coffer_with, free_id, added_p
 use Rattle.kern_roots.specs.declared.types.Root.{Root}
 use Rattle.kern_roots.specs.declared.types.RootsFault.{RootsFault}
 use Rattle.kern_roots.specs.declared.types.RootsFault.TheVariants.{Taken, TooMany, NoCoffer, NoMemory}
+use Rattle.kern_roots.specs.Reading.{state_word}
 
 -- a coffer has just this path
 abbrev pub is_taken : ℕ → (ℕ → ℕ) → List ℕ → Bool
@@ -21,7 +22,7 @@ new_coffer id path given = record {
   id = id;
   path = path;
   perm = given.perm;
-  state = given.state;
+  state = state_word given.state;
   kind = given.kind;
   control = given.control;
   root = given.root;

@@ -4,6 +4,7 @@ ghost use Rattle.tr_types.specs.KernelView.{pages_of};
 ghost use Rattle.tr_types.specs.Journal.{kernel_word};
 ghost use Rattle.tr_types.specs.KernelRules.{IsSoundKernel};
 ghost use Rattle.tr_types.specs.PathMap as map;
+ghost use Rattle.kern_roots.specs.Reading.{state_word};
 ghost use Rattle.kern_roots.specs.Entries.{has_coffer};
 ghost use Rattle.kern_roots.specs.Changes.{Adds, Changes, new_coffer};
 
@@ -12,7 +13,7 @@ mod pairs;
 mod search;
 
 use crate::reading::entry::{entry_at, next_of, read, read_path};
-use crate::types::{Pairs, Root, RootsFault};
+use crate::types::{Pairs, Root, RootState, RootsFault};
 use chain::{bucket_at, leading_word};
 use pairs::{cleared, entry_words, from_address, put_pair};
 use pm_words::Words;
@@ -77,17 +78,19 @@ pub fn set_perm(alloc: Global, words: &Words, id: u16, perm: &Perm) -> Result<Pa
 }
 
 /// The pair that gives a coffer another state. `NoCoffer` comes exactly where no coffer has the number.
-pub fn set_state(alloc: Global, words: &Words, id: u16, state: u8) -> Result<Pairs, RootsFault>
+pub fn set_state(
+    alloc: Global,
+    words: &Words,
+    id: u16,
+    state: RootState,
+) -> Result<Pairs, RootsFault>
     requires { IsSoundKernel words.now }
-    ensures { Changes (pages_of words.now) (kernel_word words.now) id (map.state_pairs (pages_of words.now) id state) result }
+    ensures { Changes (pages_of words.now) (kernel_word words.now) id (map.state_pairs (pages_of words.now) id (state_word state)) result }
 {
     if !is_used(words, id) {
         return Err(RootsFault::NoCoffer);
     }
-    Ok(Items::from_slice(
-        alloc,
-        &[(coffer_state(entry_at(words, id)), u64::from(state))],
-    )?)
+    Ok(Items::from_slice(alloc, &[(coffer_state(entry_at(words, id)), state.word())])?)
 }
 
 /// The pair that gives a coffer another root page. `NoCoffer` comes exactly where no coffer has the

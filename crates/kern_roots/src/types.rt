@@ -1,5 +1,6 @@
 // What the calls on the coffer table take and answer.
 ghost use Rattle.std.specs.Prelude.{◌≡◌};
+ghost use Rattle.kern_roots.specs.Reading.{state_word, state_named};
 ghost use Rattle.kern_roots.specs.declared.types.RootsFault.TheVariants.{NoMemory};
 
 use sqlite_items::Items;
@@ -19,12 +20,41 @@ pub struct Found {
     pub path_len: u16,
 }
 
-/// What a coffer's entry says, but its path. The state is 1 where it stands and 2 where it is
-/// quarantined; `control` and `root` are page numbers.
+/// The state of a coffer. One that isn't there has none.
+#[derive(Clone, Copy, Debug, PartialEq, Eq)]
+pub enum RootState {
+    Standing,
+    Quarantined,
+}
+
+impl RootState {
+    /// The word by which an entry says it.
+    pub(crate) fn word(self) -> u64
+        ensures { result ≡ state_word self }
+    {
+        match self {
+            RootState::Standing => 1,
+            RootState::Quarantined => 2,
+        }
+    }
+
+    /// The state that the word of a coffer's entry says.
+    pub(crate) fn named(word: u64) -> RootState
+        ensures { result ≡ state_named word }
+    {
+        if word == 2 {
+            RootState::Quarantined
+        } else {
+            RootState::Standing
+        }
+    }
+}
+
+/// What a coffer's entry says, but its path. `control` and `root` are page numbers.
 #[derive(Clone, Copy, Debug, PartialEq, Eq)]
 pub struct Root {
     pub perm: Perm,
-    pub state: u8,
+    pub state: RootState,
     pub kind: u8,
     pub control: u32,
     pub root: u32,

@@ -3,6 +3,7 @@ ghost use Rattle.std.specs.Prelude.{◌≡◌, ◌+◌, ◌*◌, ◌<◌, ◌≤
 ghost use Rattle.std.specs.List.{position_or_len};
 ghost use Rattle.std.specs.Int.{w64, from_le_bytes};
 ghost use Rattle.tr_types.specs.PathMap as map;
+ghost use Rattle.kern_roots.specs.Reading.{state_word};
 ghost use Rattle.kern_roots.specs.Changes.{new_coffer};
 
 use crate::types::Root;
@@ -73,10 +74,10 @@ pub fn entry_words(
 // The words of an entry before its path.
 fn fields(root: &Root, next: u64, path_length: u64) -> [u64; 9]
     ensures { let r = root.now in
-        result ≡ r.state ∷ r.perm.uid ∷ r.perm.gid ∷ r.perm.mode ∷ r.control ∷ r.root ∷ next ∷ path_length ∷ r.kind ∷ [] }
+        result ≡ state_word r.state ∷ r.perm.uid ∷ r.perm.gid ∷ r.perm.mode ∷ r.control ∷ r.root ∷ next ∷ path_length ∷ r.kind ∷ [] }
 {
     [
-        u64::from(root.state),
+        root.state.word(),
         u64::from(root.perm.uid),
         u64::from(root.perm.gid),
         u64::from(root.perm.mode),

@@ -18,7 +18,7 @@ const PERM: Perm = Perm {
 
 const STANDING: Root = Root {
     perm: PERM,
-    state: 1,
+    state: RootState::Standing,
     kind: 0,
     control: 40,
     root: 41,
@@ -119,7 +119,7 @@ fn the_root_coffers_words_go(rt: HostRuntime) -> Result<(), Fail> {
 fn some_words_of_the_root_coffer_change(rt: HostRuntime) -> Result<(), Fail> {
     let words = new_words(rt.alloc())?;
     let perm = set_perm(rt.alloc(), &words, ROOT, &PERM)?;
-    let state = set_state(rt.alloc(), &words, ROOT, 2)?;
+    let state = set_state(rt.alloc(), &words, ROOT, RootState::Quarantined)?;
     let root = set_root(rt.alloc(), &words, ROOT, 50)?;
     assert_eq!(rt;
         perm.as_slice(),
@@ -141,7 +141,7 @@ fn there_is_no_coffer_9(rt: HostRuntime) -> Result<(), Fail> {
     let refused = [
         drop_entry(rt.alloc(), &words, 9).err(),
         set_perm(rt.alloc(), &words, 9, &free).err(),
-        set_state(rt.alloc(), &words, 9, 1).err(),
+        set_state(rt.alloc(), &words, 9, RootState::Standing).err(),
         set_root(rt.alloc(), &words, 9, 40).err(),
     ];
     assert_eq!(rt; refused, [Some(RootsFault::NoCoffer); 4]);

@@ -12,7 +12,7 @@ ghost use Rattle.tr_types.specs.KernelRules.{IsSoundKernel};
 ghost use Rattle.kern_roots.specs.Reading.{root_of};
 ghost use Rattle.kern_roots.specs.Entries as spec;
 
-use crate::types::Root;
+use crate::types::{Root, RootState};
 use pm_words::Words;
 use std::alloc::{AllocError, Global};
 use tr_types::Perm;
@@ -70,7 +70,7 @@ pub fn read_root(words: &Words, id: u16) -> Root
             gid: read(words, coffer_gid(entry)) as u32,
             mode: read(words, coffer_mode(entry)) as u16,
         },
-        state: read(words, coffer_state(entry)) as u8,
+        state: RootState::named(read(words, coffer_state(entry))),
         kind: read(words, coffer_kind(entry)) as u8,
         control: read(words, coffer_control(entry)) as u32,
         root: read(words, coffer_root(entry)) as u32,

@@ -2,7 +2,7 @@
 ghost use Rattle.tr_types.specs.KernelRules.{IsSoundKernel};
 
 use super::image::{RowFault, THREE, image_with, path};
-use kern_roots::{Found, Root, RootsFault, children, entry_of, find, path_of};
+use kern_roots::{Found, Root, RootState, RootsFault, children, entry_of, find, path_of};
 use pm_words::Words;
 use std::alloc::Global;
 use std::test::Fail;
@@ -15,7 +15,7 @@ const ROOT: Root = Root {
         gid: 0,
         mode: 0o666,
     },
-    state: 1,
+    state: RootState::Standing,
     kind: 0,
     control: 38,
     root: 39,
@@ -105,7 +105,10 @@ fn what_is_no_coffer_has_no_path_and_no_children(rt: HostRuntime) -> Result<(), 
 #[test]
 fn a_quarantined_coffer_is_there(rt: HostRuntime) -> Result<(), Fail> {
     let words = image_with(rt.alloc(), &THREE, &[(20992, 2)])?;
-    assert_eq!(rt; entry_of(&words, 2).map(|root| root.state), Some(2));
+    assert_eq!(rt;
+        entry_of(&words, 2).map(|root| root.state),
+        Some(RootState::Quarantined)
+    );
     assert_eq!(rt; found(rt.alloc(), &words, b"/a/x")?, (2, false, 2));
     Ok(())
 }

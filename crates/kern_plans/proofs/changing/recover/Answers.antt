@@ -5,6 +5,7 @@ use Rattle.tr_types.specs.KernelView.{pages_of}
 use Rattle.tr_types.specs.PathMap.{state_pairs}
 use Rattle.tr_types.specs.KernelCalls.{is_there_with}
 use Rattle.tr_types.specs.declared.kernel_call.KernAnswer.TheVariants.{NotHeld, NoCoffer}
+use Rattle.kern_roots.specs.Reading.{state_word}
 use Rattle.kern_plans.proofs.RowLemmas.{skips, lets_pass}
 use Rattle.kern_plans.proofs.changing.recover.Goals as goal
 use Rattle.kern_plans.proofs.changing.recover.Goals.{then-ready, else-ready}
@@ -14,10 +15,10 @@ returns-in-Ok c =
     let words = c.args.asked.now.words in
     let is_recovery = eq-eqb c.args.asked.now.thread 256 (sym c.thread.ensures ∙ c.if-thread-ne-RECOVERY.false) in
     let there = sym (ap (λ (ws : List Word). is_there_with ws c.args.id) c.words.ensures.words) ∙ c.in-Ok.ensures.0 in
-    let state : c.if-ready.state ≡ cond c.args.ready 1 2 =
+    let state : state_word c.if-ready.state ≡ cond c.args.ready 1 2 =
     elim c.if-ready.branch [
-      | then-ready w ↦ w.state-is ∙ sym (ap (λ (b : Bool). cond b 1 2) w.if-ready.true)
-      | else-ready w ↦ w.state-is ∙ sym (ap (λ (b : Bool). cond b 1 2) w.if-ready.false)
+      | then-ready w ↦ ap state_word w.state-is ∙ sym (ap (λ (b : Bool). cond b 1 2) w.if-ready.true)
+      | else-ready w ↦ ap state_word w.state-is ∙ sym (ap (λ (b : Bool). cond b 1 2) w.if-ready.false)
     ] in
     c.stores.ensures _ (record {
       due = skips _ _ (lets_pass _ NotHeld (ap not is_recovery)) ∙ skips _ _ (lets_pass _ NoCoffer (ap not there));
@@ -25,6 +26,6 @@ returns-in-Ok c =
       granted = refl;
       pairs =
           sym (c.as_slice.ensures ∙ c.in-Ok.ensures.1
-          ∙ ap (λ (ws : List Word). state_pairs (pages_of ws) c.args.id c.if-ready.state) c.words.ensures.words
+          ∙ ap (λ (ws : List Word). state_pairs (pages_of ws) c.args.id (state_word c.if-ready.state)) c.words.ensures.words
           ∙ ap (state_pairs (pages_of words) c.args.id) state);
     })

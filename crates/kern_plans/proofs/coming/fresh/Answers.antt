@@ -8,7 +8,7 @@ use Rattle.tr_types.specs.KernelView.{pages_of}
 use Rattle.tr_types.specs.Kernel.{spare_pages}
 use Rattle.tr_types.specs.KernelCalls.{first_due, pages_short}
 use Rattle.kern_plans.specs.Plans.{Plan}
-use Rattle.kern_plans.specs.Parts.{Passes, entry_refusals, fresh_pairs}
+use Rattle.kern_plans.specs.Parts.{Passes, entry_refusals, link_of, fresh_pairs}
 use Rattle.kern_plans.proofs.CheckLemmas.{stopped}
 use Rattle.kern_plans.proofs.GiveLemmas.{spare_inside}
 use Rattle.kern_plans.proofs.FreshLemmas.{too_few, enough, fresh_is}
@@ -45,6 +45,6 @@ returns-in-Ok-fresh_pairs-clause-refused c =
 pub returns-in-Ok-fresh_pairs-clause-plan : goal.returns-in-Ok-fresh_pairs-clause-plan
 returns-in-Ok-fresh_pairs-clause-plan c =
     fresh_is c.words-words.result.now c.args.asked.now.words c.in_ok-id.id c.page_of.result c.page_of-2.result c.args.kind c.args.path.now c.in-Ok.granted.items c.args.perm
-    c.in_ok-id.added c.as_slice.result.now c.in-Ok-fresh_pairs.pairs.items c.args.link c.words-words.ensures.words c.in_ok-id.ensures.id c.in_ok-id.ensures.pairs c.as_slice.ensures c.in-Ok.ensures
+    c.in_ok-id.added c.as_slice.result.now c.in-Ok-fresh_pairs.pairs.items (link_of c.args.link) c.words-words.ensures.words c.in_ok-id.ensures.id c.in_ok-id.ensures.pairs c.as_slice.ensures c.in-Ok.ensures
     (c.page_of.ensures ∙ ap (λ (xs : List ℕ). get_or xs 0 0) c.deref.ensures.value) (c.page_of-2.ensures ∙ ap (λ (xs : List ℕ). get_or xs 1 0) c.deref-2.ensures.value)
-    (c.in-Ok-fresh_pairs.ensures ∙ ap (λ (xs : List ℕ). fresh_pairs c.words-words.result.now c.in_ok-id.id xs c.as_slice.result.now c.args.kind c.args.link) c.deref-3.ensures.value)
+    (c.in-Ok-fresh_pairs.ensures ∙ ap (λ (xs : List ℕ). fresh_pairs c.words-words.result.now c.in_ok-id.id xs c.as_slice.result.now c.args.kind (link_of c.args.link)) c.deref-3.ensures.value)

@@ -2,6 +2,7 @@ use Rattle.std.proofs.Common.{[], ◌∷◌, ◌++◌, not, refl}
 use Rattle.std.proofs.lemmas.Result.{err_from_is_err_and}
 use Rattle.tr_types.specs.KernelCalls as calls
 use Rattle.tr_types.specs.declared.kernel_call.KernAnswer.TheVariants.{NotHeld, NotEmptyList}
+use Rattle.kern_plans.specs.Parts.{linking_refusals}
 use Rattle.kern_plans.proofs.CheckLemmas.{stopped, refused_later}
 use Rattle.kern_plans.proofs.going.check_delete.Goals as goal
 
@@ -12,8 +13,7 @@ returns-in_err-check_leaving c = λ callers has.
     stopped (Unit {0}) (Unit {0}) []
     (calls.owner_refused callers asked.words asked.thread c.args.id
     ++ (calls.refused_where (not (calls.holds_both asked.words asked.holders asked.thread c.args.id c.args.parent)) NotHeld ∷ calls.refused_where (calls.has_children asked.words c.args.id) NotEmptyList ∷ []))
-    (calls.pages_refused asked.words c.args.parent (calls.link_addr c.args.link ∷ c.args.guard.0 ∷ []) c.args.parent [] []
-    ∷ calls.guard_refused asked.words asked.tick c.args.guard ∷ calls.link_refused asked.words c.args.link ∷ []) _ p.0 c.from_residual.result p.1 p.2 refl
+    (linking_refusals asked.words asked.tick c.args.parent c.args.linking c.args.parent [] []) _ p.0 c.from_residual.result p.1 p.2 refl
     (c.in_err-check_leaving.ensures callers has)
 
 pub returns : goal.returns
@@ -22,6 +22,5 @@ returns c = λ callers has.
     refused_later (Unit {0})
     (calls.owner_refused callers asked.words asked.thread c.args.id
     ++ (calls.refused_where (not (calls.holds_both asked.words asked.holders asked.thread c.args.id c.args.parent)) NotHeld ∷ calls.refused_where (calls.has_children asked.words c.args.id) NotEmptyList ∷ []))
-    (calls.pages_refused asked.words c.args.parent (calls.link_addr c.args.link ∷ c.args.guard.0 ∷ []) c.args.parent [] []
-    ∷ calls.guard_refused asked.words asked.tick c.args.guard ∷ calls.link_refused asked.words c.args.link ∷ []) c.check_linking.result
+    (linking_refusals asked.words asked.tick c.args.parent c.args.linking c.args.parent [] []) c.check_linking.result
     (c.in_ok-check_leaving.ensures callers has) c.check_linking.ensures

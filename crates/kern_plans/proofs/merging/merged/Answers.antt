@@ -8,7 +8,7 @@ use Rattle.tr_types.specs.Journal.{kernel_word}
 use Rattle.tr_types.specs.Kernel.{coffer_pages}
 use Rattle.tr_types.specs.PathMap.{dropped_pairs}
 use Rattle.tr_types.specs.KernelCalls.{unlisted}
-use Rattle.kern_plans.specs.Parts.{merged_pairs}
+use Rattle.kern_plans.specs.Parts.{link_of, merged_pairs}
 use Rattle.kern_plans.proofs.GiveLemmas.{owned_inside}
 use Rattle.kern_plans.proofs.MoveLemmas.{used_most}
 use Rattle.kern_plans.proofs.merging.merged.Goals as goal
@@ -32,6 +32,6 @@ returns c =
     c.as_slice.ensures ∙ c.in_ok-dropped.ensures.1
     ∙ ap (λ (ws : List Word). dropped_pairs (pages_of ws) (kernel_word ws) c.args.child) c.words-words.ensures.words in
     c.in_ok-merged_pairs.ensures
-    ∙ ap (λ (ws : List Word). merged_pairs ws c.args.parent c.args.pages.now c.deref-2.result.now c.as_slice.result.now c.args.link) c.words-words.ensures.words
-    ∙ ap (λ (xs : List ℕ). merged_pairs words c.args.parent c.args.pages.now xs c.as_slice.result.now c.args.link) rest
-    ∙ ap (λ (ps : List (ℕ × ℕ)). merged_pairs words c.args.parent c.args.pages.now (unlisted c.args.pages.now (coffer_pages words c.args.child)) ps c.args.link) entry
+    ∙ ap (λ (ws : List Word). merged_pairs ws c.args.parent c.args.pages.now c.deref-2.result.now c.as_slice.result.now (link_of c.args.link)) c.words-words.ensures.words
+    ∙ ap (λ (xs : List ℕ). merged_pairs words c.args.parent c.args.pages.now xs c.as_slice.result.now (link_of c.args.link)) rest
+    ∙ ap (λ (ps : List (ℕ × ℕ)). merged_pairs words c.args.parent c.args.pages.now (unlisted c.args.pages.now (coffer_pages words c.args.child)) ps (link_of c.args.link)) entry

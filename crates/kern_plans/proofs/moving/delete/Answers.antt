@@ -1,7 +1,13 @@
-use Rattle.std.proofs.Common.{◌∙◌, ℕ, List, [], ◌∷◌, ◌++◌, length, refl, ap, arith}
+use Rattle.std.proofs.Common.{◌≡◌, ◌∙◌, ℕ, List, [], ◌∷◌, ◌++◌, None, length, refl, ap, subst, arith}
+use Rattle.tr_types.specs.KernelView.{pages_of}
+use Rattle.tr_types.specs.Journal.{kernel_word}
 use Rattle.tr_types.specs.Kernel.{coffer_pages}
+use Rattle.tr_types.specs.PathMap.{dropped_pairs}
 use Rattle.tr_types.specs.KernelCalls as calls
+use Rattle.tr_types.specs.KernelCalls.{first_due}
 use Rattle.tr_types.specs.declared.kernel_call.KernAnswer.{KernAnswer}
+use Rattle.kern_plans.specs.declared.linking.Linking.{Linking}
+use Rattle.kern_plans.specs.Parts.{link_of, guard_of}
 use Rattle.kern_plans.proofs.CheckLemmas.{mapped_ok}
 use Rattle.kern_plans.proofs.NamedLemmas.{goes_so}
 use Rattle.kern_plans.proofs.moving.delete.Goals as goal
@@ -13,15 +19,19 @@ delete_pairs-requires c =
 
 pub returns-in-Ok : goal.returns-in-Ok
 returns-in-Ok c = λ callers has.
-    let words = c.args.asked.now.words in
+    let asked = c.args.asked.now in
+    let words = asked.words in
     let gone = goes_so c.words.result.now words c.args.id c.in_ok-dropped.dropped c.drop_entry.result c.words.ensures.words
     (mapped_ok KernAnswer c.drop_entry.result c.in_ok-dropped.dropped _ c.in_ok-dropped.ensures.variant c.in_ok-dropped.ensures.cases) c.drop_entry.ensures in
     record {
-      due = c.in_ok-check_delete.ensures callers has;
+      due =
+          subst (λ (l : Linking). first_due (calls.delete_row callers words asked.holders asked.thread asked.tick c.args.id c.args.parent (link_of l.link) (guard_of l.guard)).refusals ≡ None) c.new-linking.ensures
+          (c.in_ok-check_delete.ensures callers has);
       answer = refl;
       granted = c.new.ensures.items;
       pairs =
           c.in-Ok.ensures
-          ∙ ap (λ (pairs : List (ℕ × ℕ)). calls.owner_pairs words 0 (coffer_pages words c.args.id) ++ (pairs ++ calls.link_pair c.args.link ∷ [])) (c.as_slice.ensures ∙ gone.1);
+          ∙ ap (λ (pairs : List (ℕ × ℕ)). calls.owner_pairs words 0 (coffer_pages words c.args.id) ++ (pairs ++ calls.link_pair (link_of c.new-linking.result.link) ∷ [])) (c.as_slice.ensures ∙ gone.1)
+          ∙ ap (λ (l : Linking). calls.owner_pairs words 0 (coffer_pages words c.args.id) ++ (dropped_pairs (pages_of words) (kernel_word words) c.args.id ++ calls.link_pair (link_of l.link) ∷ [])) c.new-linking.ensures;
       few = let none = ap (λ (xs : List ℕ). length xs) c.new.ensures.items in omega arith;
     }

@@ -4,7 +4,8 @@ use Rattle.tr_types.specs.Journal.{kernel_word}
 use Rattle.tr_types.specs.Kernel.{coffer_pages}
 use Rattle.tr_types.specs.PathMap.{dropped_pairs}
 use Rattle.tr_types.specs.KernelCalls.{first_due, merge_row, unlisted}
-use Rattle.kern_plans.specs.Parts.{merged_pairs}
+use Rattle.kern_plans.specs.declared.linking.Linking.{Linking}
+use Rattle.kern_plans.specs.Parts.{link_of, guard_of, merged_pairs}
 use Rattle.kern_plans.proofs.moving.merge.Goals as goal
 
 pub returns-in-Ok : goal.returns-in-Ok
@@ -14,11 +15,14 @@ returns-in-Ok c = λ callers cred.
     record {
       due =
           subst (λ (pages : List ℕ). first_due (merge_row callers asked.words asked.holders asked.thread asked.tick c.args.child c.args.parent pages c.args.link c.args.guard).refusals ≡ None) c.as_slice-pages.ensures
-          (c.in_ok-check_merge.ensures.refused callers cred);
+          (subst (λ (l : Linking). first_due (merge_row callers asked.words asked.holders asked.thread asked.tick c.args.child c.args.parent c.as_slice-pages.result.now (link_of l.link) (guard_of l.guard)).refusals ≡ None)
+          c.new-linking.ensures (c.in_ok-check_merge.ensures.refused callers cred));
       answer = refl;
       granted = c.new.ensures.items;
       pairs =
-          let stored = λ (pages : List ℕ). merged_pairs words c.args.parent pages (unlisted pages (coffer_pages words c.args.child)) (dropped_pairs (pages_of words) (kernel_word words) c.args.child) c.args.link in
-          ◌∙◌ {b = stored c.as_slice-pages.result.now} c.in-Ok.ensures (ap stored c.as_slice-pages.ensures);
+          let stored = λ (pages : List ℕ) (l : Linking).
+          merged_pairs words c.args.parent pages (unlisted pages (coffer_pages words c.args.child)) (dropped_pairs (pages_of words) (kernel_word words) c.args.child) (link_of l.link) in
+          ◌∙◌ {b = stored c.as_slice-pages.result.now c.new-linking.result} c.in-Ok.ensures
+          (ap (λ (pages : List ℕ). stored pages c.new-linking.result) c.as_slice-pages.ensures ∙ ap (stored c.args.pages.now) c.new-linking.ensures);
       few = let none = ap (λ (xs : List ℕ). length xs) c.new.ensures.items in omega arith;
     }

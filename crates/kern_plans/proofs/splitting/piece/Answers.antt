@@ -7,7 +7,7 @@ use Rattle.pm_words.specs.Word.{Word}
 use Rattle.tr_types.specs.KernelView.{pages_of}
 use Rattle.tr_types.specs.KernelCalls.{first_due, pages_short}
 use Rattle.kern_plans.specs.Plans.{Plan}
-use Rattle.kern_plans.specs.Parts.{Passes, entry_refusals, piece_pairs}
+use Rattle.kern_plans.specs.Parts.{Passes, entry_refusals, link_of, piece_pairs}
 use Rattle.kern_plans.proofs.CheckLemmas.{stopped}
 use Rattle.kern_plans.proofs.GiveLemmas.{spare_inside}
 use Rattle.kern_plans.proofs.PieceLemmas.{none_free, some_free, piece_is}
@@ -46,7 +46,7 @@ returns-in-Ok-piece_pairs-clause-refused c =
 
 pub returns-in-Ok-piece_pairs-clause-plan : goal.returns-in-Ok-piece_pairs-clause-plan
 returns-in-Ok-piece_pairs-clause-plan c =
-    piece_is c.words-words.result.now c.args.asked.now.words c.in_ok-id.id c.first_of.result c.first_of-2.result c.args.path.now c.args.pages.now c.in-Ok.granted.items c.args.perm
-    c.in_ok-id.added c.as_slice.result.now c.in-Ok-piece_pairs.pairs.items c.args.link c.words-words.ensures.words c.in_ok-id.ensures.id c.in_ok-id.ensures.pairs c.as_slice.ensures c.in-Ok.ensures
-    (c.first_of.ensures ∙ ap (λ (xs : List ℕ). get_or xs 0 0) c.deref.ensures.value) c.first_of-2.ensures
-    (c.in-Ok-piece_pairs.ensures ∙ ap (λ (xs : List ℕ). piece_pairs c.words-words.result.now c.in_ok-id.id c.args.pages.now xs c.as_slice.result.now c.args.link) c.deref-2.ensures.value)
+    piece_is c.words-words.result.now c.args.asked.now.words c.in_ok-id.id c.page_of.result c.page_of-2.result c.args.path.now c.args.pages.now c.in-Ok.granted.items c.args.perm
+    c.in_ok-id.added c.as_slice.result.now c.in-Ok-piece_pairs.pairs.items (link_of c.args.link) c.words-words.ensures.words c.in_ok-id.ensures.id c.in_ok-id.ensures.pairs c.as_slice.ensures c.in-Ok.ensures
+    (c.page_of.ensures ∙ ap (λ (xs : List ℕ). get_or xs 0 0) c.deref.ensures.value) c.page_of-2.ensures
+    (c.in-Ok-piece_pairs.ensures ∙ ap (λ (xs : List ℕ). piece_pairs c.words-words.result.now c.in_ok-id.id c.args.pages.now xs c.as_slice.result.now (link_of c.args.link)) c.deref-2.ensures.value)
