@@ -25,7 +25,6 @@ use Rattle.tr_types.specs.declared.permission.Right.{Right}
 use Rattle.kern_roots.specs.Entries.{has_id}
 use Rattle.kern_roots.specs.Reading.{root_of, state_named}
 use Rattle.kern_roots.specs.declared.types.Root.{Root}
-use Rattle.kern_roots.specs.declared.types.RootState.{RootState}
 use Rattle.kern_roots.specs.declared.types.RootState.TheVariants.{Standing, Quarantined}
 use Rattle.kern_plans.proofs.RowLemmas.{skips, stops, lets_pass, refuses_so}
 use Rattle.kern_plans.proofs.LookLemmas.{coffer_by_id}

@@ -1,4 +1,4 @@
-use Rattle.std.proofs.Common.{◌≡◌, ◌∙◌, ℕ, List, [], length, sym, ap, subst}
+use Rattle.std.proofs.Common.{◌≡◌, ◌∙◌, ℕ, List, [], length, rules, sym, ap, subst}
 use Rattle.tr_types.specs.Kernel.{coffer_pages}
 use Rattle.tr_types.specs.Permission.{refuses}
 use Rattle.tr_types.specs.KernelCalls.{found_for, located, mapped_as, map_row}
@@ -36,13 +36,13 @@ returns-then-refuses c =
     let asked : c.refuses.result ≡ refuses root.perm c.args.cred c.args.right = c.refuses.ensures in
     map_denied c.args.self.now c.args.words.now c.args.thread c.args.path.now c.args.right c.args.exclusive found.0 c.in-Found.first found.1 root is c.args.cred c.requires.cred (sym asked ∙ c.if-refuses.true)
 
-pub returns-then-root-eq-QUARANTINED : goal.returns-then-root-eq-QUARANTINED
-returns-then-root-eq-QUARANTINED c =
+pub returns-then-eq : goal.returns-then-eq
+returns-then-eq c =
     let found = found_first c.args.words.now c.args.path.now c.in-Found.first c.in-Found.second (c.in-Found.ensures []) in
     let root = c.unwrap-root.result in
     let is = entry_is c.args.words.now c.args.path.now c.requires.sound c.in-Found.first found.1 c.entry_of.result root c.entry_of.ensures c.unwrap-root.ensures in
     let asked : c.refuses.result ≡ refuses root.perm c.args.cred c.args.right = c.refuses.ensures in
-    map_quarantined c.args.self.now c.args.words.now c.args.thread c.args.path.now c.args.right c.args.exclusive found.0 c.in-Found.first found.1 root is c.args.cred c.requires.cred (sym asked ∙ c.if-refuses.false) c.if-root-eq-QUARANTINED.true
+    map_quarantined c.args.self.now c.args.words.now c.args.thread c.args.path.now c.args.right c.args.exclusive found.0 c.in-Found.first found.1 root is c.args.cred c.requires.cred (sym asked ∙ c.if-refuses.false) (search rules)
 
 pub hold-requires-clause-least : goal.hold-requires-clause-least
 hold-requires-clause-least c =
@@ -73,4 +73,4 @@ returns c =
     let same : (let m : Mapped = record { id = c.in-Found.first.id; key = 0; control = root.control; root = root.root; pages = c.count.result; path_len = c.in-Found.first.path_len; perm = root.perm } in m ≡ mapped_as words (located words c.args.path.now) 0) =
     λ i. record { id = (first i).id; key = 0; control = (is i).control; root = (is i).root; pages = pages i; path_len = (first i).path_len; perm = (is i).perm } in
     map_held kernel words c.args.thread c.args.path.now c.args.right c.args.exclusive found.0 c.in-Found.first found.1 root is c.args.cred c.requires.cred _ c.hold.result c.hold.new.self
-    (sym asked ∙ c.if-refuses.false) c.if-root-eq-QUARANTINED.false same c.hold.ensures
+    (sym asked ∙ c.if-refuses.false) (search rules) same c.hold.ensures
