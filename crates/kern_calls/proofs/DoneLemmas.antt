@@ -1,11 +1,13 @@
 -- What a call answers and leaves, by its row.
-use Rattle.std.proofs.Common.{◌≡◌, ◌⊎◌, inl, inr, ℕ, List, [], ◌++◌, Bool, true, false, cond, length, Option, Some, None, Err, refl, ap, sym, subst, ◌∙◌}
-use Rattle.std.specs.Prelude.{is_some}
+use Rattle.std.proofs.Common.{◌≡◌, ◌⊎◌, inl, inr, ℕ, List, [], ◌++◌, Bool, true, false, cond, length, Option, Some, None, Result, Ok, Err, refl, ap, sym, subst, ◌∙◌}
+use Rattle.std.specs.Prelude.{is_some, OnOk, OnErr}
+use Rattle.std.specs.Result.{is_err}
 use Rattle.pm_words.specs.Word.{Word}
 use Rattle.tr_types.specs.Inner.{made_all, IsCut}
+use Rattle.tr_types.specs.Journal.{kernel_word}
 use Rattle.tr_types.specs.KernelRules.{IsSoundKernel}
-use Rattle.tr_types.specs.KernelCalls.{Callers, Row, row_of, row_answer, answer_by, unless_refused, first_due, row_events, zero_events, stored_events, inner_of, find_row, is_same_mode, IsCall}
-use Rattle.tr_types.specs.Commits.{IsWorking, IsCaller, IsCommitted, MayCommit, RowKeeps, RowLaw, CommitLaw}
+use Rattle.tr_types.specs.KernelCalls.{Callers, Row, row_of, row_of_maps, row_answer, answer_by, unless_refused, first_due, row_events, zero_events, stored_events, inner_of, find_row, is_same_mode}
+use Rattle.tr_types.specs.Commits.{IsWorking, IsCommitted, MayCommit, RowKeeps, CommitLaw}
 use Rattle.tr_types.specs.declared.inner.Inner.{Inner}
 use Rattle.tr_types.specs.declared.kernel_call.Holder.{Holder}
 use Rattle.tr_types.specs.declared.kernel_call.Kcall.{Kcall}
@@ -14,6 +16,7 @@ use Rattle.tr_types.specs.declared.kernel_call.KernAnswer.{KernAnswer}
 use Rattle.tr_types.specs.declared.kernel_call.KernAnswer.TheVariants as answer
 use Rattle.kern_pages.specs.Owners.{owners_of, TellsOwners}
 use Rattle.kern_plans.specs.Plans.{Plan, Plans, IsPlanOf}
+use Rattle.kern_laws.specs.Rows.{KeepsTables}
 use Rattle.kern_calls.specs.Calls.{KernelView, IsMounted, IsDone, Answered}
 use Rattle.kern_calls.specs.Steps.{IsChange, FollowsRow, KnowsUpTo, with_holders, with_owners, holders_left}
 use Rattle.kern_calls.proofs.MountLemmas.{whole_cut}
@@ -23,6 +26,15 @@ use Rattle.kern_calls.proofs.FollowLemmas.{knows_after}
 cond_same : {X : Type 0} (b : Bool) (x : X) → cond b x x ≡ x
 cond_same true x = refl
 cond_same false x = refl
+
+-- what is said of a result, where it is an error and where it isn't
+pub ok_of : {X Y P : Type 0} (r : Result X Y) → is_err r ≡ false → OnOk r P → P
+ok_of (Ok x) ok said = said
+ok_of (Err y) ok said = absurd (cc)
+
+pub err_of : {X Y P : Type 0} (r : Result X Y) → is_err r ≡ true → OnErr r P → P
+err_of (Ok x) err said = absurd (cc)
+err_of (Err y) err said = said
 
 -- An answer, where memory may have run out.
 
@@ -82,6 +94,10 @@ left_is callers words holders thread now (call.Merge child parent pages link gua
 left_is callers words holders thread now (call.Mode id mode) change = refl
 left_is callers words holders thread now (call.Recover id ready) change = refl
 
+-- the kernel works still, where no word is changed
+pub still_works : (words : List Word) (old holders : List Holder) (refusals : List (Option KernAnswer)) (given : KernAnswer) → IsWorking words old → KeepsTables words (row_of_maps refusals given holders) → IsWorking words holders
+still_works words old holders refusals given w keeps = record { size = w.size; sound = w.sound; idle = w.idle; ids = keeps.ids; held = keeps.held (kernel_word words) (λ addr whole low high. refl) }
+
 module _ (old : KernelView) (words : List Word) (thread now : ℕ) (kcall : Kcall) (mounted : IsMounted old words) where
   abbrev row : Row
   row = row_of old.callers words old.holders thread now kcall
@@ -120,14 +136,53 @@ module _ (old : KernelView) (words : List Word) (thread now : ℕ) (kcall : Kcal
   refused answer.NotEmptyList due = refused_done answer.NotEmptyList due
   refused answer.BadCount due = refused_done answer.BadCount due
 
-  module _ (law : RowLaw) (caller : IsCaller old.callers thread kcall) (is_call : IsCall kcall) where
-    keeps : first_due (row_of old.callers words old.holders thread now kcall).refusals ≡ None → RowKeeps words (row_of old.callers words old.holders thread now kcall)
-    keeps due = law old.callers words old.holders thread now kcall mounted.working caller is_call due
+  abbrev all_made : List Word → Type 0
+  all_made after = after ≡ made_all (row_events (row_of old.callers words old.holders thread now kcall)) words
 
-    abbrev all_made : List Word → Type 0
-    all_made after = after ≡ made_all (row_events (row_of old.callers words old.holders thread now kcall)) words
+  passed_done : (result : KernAnswer) (new : KernelView) (after : List Word) → IsWorking after row.holders → first_due row.refusals ≡ None → result ≡ row.answer → all_made after → new.callers ≡ old.callers
+      → new.holders ≡ row.holders → new.owners ≡ owners_of after → IsDone old words thread now kcall result new after
+  passed_done result new after works due is made callers holders owners = record {
+    answers = is ∙ sym (ap (λ (d : Option KernAnswer). answer_by d row.answer) due);
+    memory = made ∙ sym (ap (λ (d : Option KernAnswer). made_all (cond (is_some d) [] (row_events row)) words) due);
+    callers = callers;
+    holders = holders ∙ sym (ap (λ (d : Option KernAnswer). cond (is_some d) old.holders row.holders) due);
+    mounted = record { working = subst (λ (hs : List Holder). IsWorking after hs) (sym holders) works; told = owners };
+  }
 
-    -- A plan that is made.
+  -- an answer to a call that changes no word
+  pub looked : (first_due (row_of old.callers words old.holders thread now kcall).refusals ≡ None → IsWorking words (row_of old.callers words old.holders thread now kcall).holders) → (result : KernAnswer) (new : KernelView) → row_events (row_of old.callers words old.holders thread now kcall) ≡ [] → FollowsRow (row_of old.callers words old.holders thread now kcall) old result new
+      → Answered old words thread now kcall result new words
+  looked works result new none so = by (said row old new result so)
+    where
+      made : all_made words
+      made = sym (ap (λ (es : List Inner). made_all es words) none)
+
+      done : (d : Option KernAnswer) → first_due row.refusals ≡ d → result ≡ answer_by (first_due row.refusals) row.answer → new ≡ with_holders (cond (is_some (first_due row.refusals)) old.holders row.holders) old
+          → IsDone old words thread now kcall result new words
+      done None due is left =
+          let now_is = left ∙ ap (λ (d : Option KernAnswer). with_holders (cond (is_some d) old.holders row.holders) old) due in
+          passed_done result new words (works due) due (is ∙ ap (λ (d : Option KernAnswer). answer_by d row.answer) due) made (ap (λ (k : KernelView). k.callers) now_is) (ap (λ (k : KernelView). k.holders) now_is)
+          (ap (λ (k : KernelView). k.owners) now_is ∙ mounted.told)
+      done (Some refusal) due is left =
+          subst (λ (r : KernAnswer). IsDone old words thread now kcall r new words) (sym (is ∙ ap (λ (d : Option KernAnswer). answer_by d row.answer) due))
+          (subst (λ (k : KernelView). IsDone old words thread now kcall refusal k words) (sym (left ∙ ap (λ (d : Option KernAnswer). with_holders (cond (is_some d) old.holders row.holders) old) due))
+          (refused_done refusal due))
+
+      by : (result ≡ answer.NoMemory) ⊎ ((result ≡ row_answer row) × (new ≡ with_holders (unless_refused row old.holders row.holders) old)) → Answered old words thread now kcall result new words
+      by (inl none_left) = subst (λ (r : KernAnswer). Answered old words thread now kcall r new words) (sym none_left) (0, refl)
+      by (inr (is, left)) = answered old words thread now kcall result new words (done (first_due row.refusals) refl is left) (0, refl)
+
+  -- where memory runs out, some of the plan's events are made
+  pub cut_early : (plan : Plan) (of : IsPlanOf (row_of old.callers words old.holders thread now kcall) plan) (granted : List ℕ) (gives : granted ≡ plan.granted) (pairs : List (ℕ × ℕ)) (stores : pairs ≡ plan.pairs) (after : List Word)
+      → IsCut (zero_events granted ++ stored_events pairs) words after → IsCut (inner_of old.callers words old.holders thread now kcall) words after
+  cut_early plan of granted gives pairs stores after cut =
+      subst (λ (es : List Inner). IsCut es words after)
+      (ap (λ (g : List ℕ). zero_events g ++ stored_events pairs) (gives ∙ of.granted) ∙ ap (λ (ps : List (ℕ × ℕ)). zero_events row.granted ++ stored_events ps) (stores ∙ of.pairs)
+      ∙ sym (ap (λ (d : Option KernAnswer). cond (is_some d) [] (row_events row)) of.due))
+      cut
+
+  -- an answer to a call that isn't refused, and commits what its row says
+  module _ (keeps : first_due (row_of old.callers words old.holders thread now kcall).refusals ≡ None → RowKeeps words (row_of old.callers words old.holders thread now kcall)) where
     module _ (plan : Plan) (of : IsPlanOf (row_of old.callers words old.holders thread now kcall) plan) (granted : List ℕ) (gives : granted ≡ plan.granted) (pairs : List (ℕ × ℕ)) (stores : pairs ≡ plan.pairs) where
       pub may_commit : MayCommit words granted pairs
       may_commit =
@@ -144,38 +199,6 @@ module _ (old : KernelView) (words : List Word) (thread now : ℕ) (kcall : Kcal
       cut_off due after made =
           whole_cut (inner_of old.callers words old.holders thread now kcall) words after
           (made ∙ sym (ap (λ (d : Option KernAnswer). made_all (cond (is_some d) [] (row_events row)) words) due))
-
-      passed_done : (result : KernAnswer) (new : KernelView) (after : List Word) → first_due row.refusals ≡ None → result ≡ row.answer → all_made after → new.callers ≡ old.callers → new.holders ≡ row.holders
-          → new.owners ≡ owners_of after → IsDone old words thread now kcall result new after
-      passed_done result new after due is made callers holders owners = record {
-        answers = is ∙ sym (ap (λ (d : Option KernAnswer). answer_by d row.answer) due);
-        memory = made ∙ sym (ap (λ (d : Option KernAnswer). made_all (cond (is_some d) [] (row_events row)) words) due);
-        callers = callers;
-        holders = holders ∙ sym (ap (λ (d : Option KernAnswer). cond (is_some d) old.holders row.holders) due);
-        mounted = record { working = subst (λ (hs : List Holder). IsWorking after hs) (sym holders) (works due after made); told = owners };
-      }
-
-      pub looked : (result : KernAnswer) (new : KernelView) → row_events (row_of old.callers words old.holders thread now kcall) ≡ [] → FollowsRow (row_of old.callers words old.holders thread now kcall) old result new
-          → Answered old words thread now kcall result new words
-      looked result new none so = by (said row old new result so)
-        where
-          made : all_made words
-          made = sym (ap (λ (es : List Inner). made_all es words) none)
-
-          done : (d : Option KernAnswer) → first_due row.refusals ≡ d → result ≡ answer_by (first_due row.refusals) row.answer → new ≡ with_holders (cond (is_some (first_due row.refusals)) old.holders row.holders) old
-              → IsDone old words thread now kcall result new words
-          done None due is left =
-              let now_is = left ∙ ap (λ (d : Option KernAnswer). with_holders (cond (is_some d) old.holders row.holders) old) due in
-              passed_done result new words due (is ∙ ap (λ (d : Option KernAnswer). answer_by d row.answer) due) made (ap (λ (k : KernelView). k.callers) now_is) (ap (λ (k : KernelView). k.holders) now_is)
-              (ap (λ (k : KernelView). k.owners) now_is ∙ mounted.told)
-          done (Some refusal) due is left =
-              subst (λ (r : KernAnswer). IsDone old words thread now kcall r new words) (sym (is ∙ ap (λ (d : Option KernAnswer). answer_by d row.answer) due))
-              (subst (λ (k : KernelView). IsDone old words thread now kcall refusal k words) (sym (left ∙ ap (λ (d : Option KernAnswer). with_holders (cond (is_some d) old.holders row.holders) old) due))
-              (refused_done refusal due))
-
-          by : (result ≡ answer.NoMemory) ⊎ ((result ≡ row_answer row) × (new ≡ with_holders (unless_refused row old.holders row.holders) old)) → Answered old words thread now kcall result new words
-          by (inl none_left) = subst (λ (r : KernAnswer). Answered old words thread now kcall r new words) (sym none_left) (0, refl)
-          by (inr (is, left)) = answered old words thread now kcall result new words (done (first_due row.refusals) refl is left) (0, refl)
 
       module _ (plan : Plan) (of : IsPlanOf (row_of old.callers words old.holders thread now kcall) plan) (granted : List ℕ) (gives : granted ≡ plan.granted) (pairs : List (ℕ × ℕ)) (stores : pairs ≡ plan.pairs) where
         module _ (after : List Word) (stored : after ≡ made_all (zero_events granted ++ stored_events pairs) words) where
@@ -199,7 +222,7 @@ module _ (old : KernelView) (words : List Word) (thread now : ℕ) (kcall : Kcal
               → new ≡ with_holders (holders_left kcall followed.holders) followed → Answered old words thread now kcall result new after
           answered_then result followed new change is follow end =
               answered old words thread now kcall result new after
-              (passed_done result new after of.due (is ∙ of.answer) made
+              (passed_done result new after (works of.due after made) of.due (is ∙ of.answer) made
               (ap (λ (k : KernelView). k.callers) end ∙ ap (λ (k : KernelView). k.callers) follow)
               (ap (λ (k : KernelView). k.holders) end ∙ ap (λ (k : KernelView). holders_left kcall k.holders) follow ∙ sym (left_is old.callers words old.holders thread now kcall change))
               (ap (λ (k : KernelView). k.owners) end ∙ ap (λ (k : KernelView). k.owners) follow))

@@ -15,6 +15,7 @@ use Rattle.tr_types.specs.declared.kernel_call.KernAnswer.TheVariants as answer
 use Rattle.tr_types.specs.declared.kernel_call.Holder.{Holder}
 use Rattle.tr_types.specs.declared.kernel_call.Mapped.{Mapped}
 use Rattle.tr_types.specs.declared.permission.Right.{Right}
+use Rattle.kern_calls.specs.declared.maps.Target.{Target}
 use Rattle.kern_calls.specs.Calls.{KernelView}
 
 -- What a call does.
@@ -58,7 +59,11 @@ FollowsRow row old result new = (result ≡ row_answer row) × (new ≡ with_hol
 abbrev pub with_key : ℕ → Mapped → Mapped
 with_key key m = record { id = m.id; key = key; control = m.control; root = m.root; pages = m.pages; path_len = m.path_len; perm = m.perm }
 
--- the last part of a map's row: nobody stands against it, and a key is free
+-- a coffer as it is answered, once it is mapped under a key
+abbrev pub mapped_under : ℕ → Target → Mapped
+mapped_under key t = record { id = t.id; key = key; control = t.root.control; root = t.root.root; pages = t.pages; path_len = t.path_len; perm = t.root.perm }
+
+-- the last part of a map's row: nobody stands against it, and a key is free; the key that `m` has counts for nothing
 abbrev pub hold_row : Callers → List Holder → ℕ → Right → Bool → Mapped → Row
 hold_row callers holders thread right exclusive m =
     row_of_maps

@@ -1,9 +1,6 @@
 // A kernel call of a thread.
-ghost use Rattle.std.specs.Prelude.{◌≡◌, ℕ, length, IfOk, IsSome};
-ghost use Rattle.tr_types.specs.Rights.{process_of};
-ghost use Rattle.tr_types.specs.KernelCalls as calls;
+ghost use Rattle.std.specs.Prelude.{◌≡◌, length, IfOk};
 ghost use Rattle.tr_types.specs.KernelCalls.{IsCall, inner_of};
-ghost use Rattle.tr_types.specs.Commits.{IsFit};
 ghost use Rattle.kern_calls.specs.Calls.{IsMounted, MayCall, Answered};
 ghost use Rattle.kern_calls.specs.Steps.{IsChange};
 
@@ -14,7 +11,7 @@ use kern_pages::owners_law;
 use kern_plans::find;
 use pm_words::{NoMemory, Words};
 use std::alloc::AllocError;
-use tr_types::{Cred, Kcall, KernAnswer};
+use tr_types::{Kcall, KernAnswer};
 
 impl Kernel {
     /// Answers a call of a thread at a tick, by the call's row. A refused call changes nothing. An
@@ -29,54 +26,42 @@ impl Kernel {
         ensures answered { Answered self.old words.old thread now call.now result self.new words.new }
         ensures len { length words.new ≡ length words.old }
     {
-        // What each call leaves, the kernel can stand over.
-        row_law();
-        commit_law();
-        let cred = self.cred_of(thread);
         match call {
             Kcall::Find { path, also } => find(words, path, also),
             Kcall::Map {
                 path,
                 right,
                 exclusive,
-            } => self.map(words, cred, thread, path, *right, *exclusive),
+            } => self.map(words, thread, path, *right, *exclusive),
             Kcall::Unmap { id } => self.unmap(thread, *id),
-            _ => self.change(words, cred, thread, now, call),
+            _ => self.change(words, thread, now, call),
         }
     }
 
     // Answers a call that stores words where it isn't refused.
-    fn change(
-        &mut self,
-        words: &mut Words,
-        cred: Cred,
-        thread: u16,
-        now: u32,
-        call: &Kcall,
-    ) -> KernAnswer
+    fn change(&mut self, words: &mut Words, thread: u16, now: u32, call: &Kcall) -> KernAnswer
         requires mounted { IsMounted self.old words.old }
         requires caller { MayCall self.old.callers thread call.now }
-        requires cred { IsSome (process_of self.old.callers.threads thread) → cred ≡ calls.cred_of self.old.callers thread }
-        requires fit { IsFit cred }
         requires call { IsCall call.now }
         requires change { IsChange call.now }
         ensures answered { Answered self.old words.old thread now call.now result self.new words.new }
         ensures len { length words.new ≡ length words.old }
     {
+        let cred = self.cred_of(thread);
         let plan = match self.plan(words, cred, thread, now, call) {
             Ok(plan) => plan,
             Err(refusal) => return refusal,
         };
+        // What the plan says can be committed.
         row_law();
+        if commit(self.alloc, words, &plan.granted, &plan.pairs).is_err() {
+            return KernAnswer::NoMemory;
+        }
+        // The kernel can stand over what that leaves.
         commit_law();
         owners_law();
-        match commit(self.alloc, words, &plan.granted, &plan.pairs) {
-            Ok(()) => {}
-            Err(_) => return KernAnswer::NoMemory,
-        }
-        match self.follow(words, &plan.pairs) {
-            Ok(()) => {}
-            Err(_) => return KernAnswer::NoMemory,
+        if self.follow(words, &plan.pairs).is_err() {
+            return KernAnswer::NoMemory;
         }
         self.end_maps(call);
         plan.answer

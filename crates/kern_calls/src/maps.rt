@@ -6,12 +6,12 @@ ghost use Rattle.tr_types.specs.KernelCalls as calls;
 ghost use Rattle.tr_types.specs.KernelCalls.{IsPathText};
 ghost use Rattle.tr_types.specs.Commits.{IsFit};
 ghost use Rattle.kern_pages.specs.Owners.{owners_of};
-ghost use Rattle.kern_calls.specs.Steps.{FollowsRow, hold_row};
+ghost use Rattle.kern_calls.specs.Steps.{FollowsRow, mapped_under, hold_row};
 
 use crate::kernel::Kernel;
 use kern_pages::owners_law;
 use kern_plans::find;
-use kern_roots::{RootState, entry_of};
+use kern_roots::{Root, RootState, entry_of};
 use page_rights::MapFault;
 use pm_words::Words;
 use tr_types::{Cred, KernAnswer, Mapped, Path, Right, refuses};
@@ -22,12 +22,38 @@ const NOBODY: Cred = Cred {
     gid: u32::MAX,
 };
 
+// A coffer that is to be mapped: its number, its entry, how many pages it has, and the length of its
+// path.
+#[derive(Clone, Copy)]
+struct Target {
+    id: u16,
+    root: Root,
+    pages: u32,
+    path_len: u16,
+}
+
+impl Target {
+    // What is answered once it is mapped under a key.
+    fn mapped(self, key: u8) -> Mapped
+        ensures { result ≡ mapped_under key self }
+    {
+        Mapped {
+            id: self.id,
+            key,
+            control: self.root.control,
+            root: self.root.root,
+            pages: self.pages,
+            path_len: self.path_len,
+            perm: self.root.perm,
+        }
+    }
+}
+
 impl Kernel {
-    /// Maps the coffer of a path for a thread that was started, whose process has these credentials.
+    /// Maps the coffer of a path for a thread that was started.
     pub(crate) fn map(
         &mut self,
         words: &Words,
-        cred: Cred,
         thread: u16,
         path: &Path,
         right: Right,
@@ -36,51 +62,46 @@ impl Kernel {
         requires sound { IsSoundKernel words.now }
         requires told { self.old.owners ≡ owners_of words.now }
         requires started { IsSome (process_of self.old.callers.threads thread) }
-        requires cred { cred ≡ calls.cred_of self.old.callers thread }
         requires path { IsPathText path.now }
         ensures { FollowsRow (calls.map_row self.old.callers words.now self.old.holders thread path.now right exclusive) self.old result self.new }
     {
-        let found = match find(words, path, &None) {
-            KernAnswer::Found { first, .. } => first,
+        let (id, path_len) = match find(words, path, &None) {
+            KernAnswer::Found { first, .. } => (first.id, first.path_len),
             refusal => return refusal,
         };
-        let root = entry_of(words, found.id).unwrap();
-        owners_law();
-        let mapped = Mapped {
-            id: found.id,
-            key: 0,
-            control: root.control,
-            root: root.root,
-            pages: self.owners.count(found.id),
-            path_len: found.path_len,
-            perm: root.perm,
-        };
-        if refuses(&mapped.perm, &cred, right) {
+        let root = entry_of(words, id).unwrap();
+        let cred = self.cred_of(thread);
+        if refuses(&root.perm, &cred, right) {
             return KernAnswer::Denied {
                 right,
-                id: mapped.id,
-                path_len: mapped.path_len,
+                id,
+                path_len,
             };
         }
         if root.state == RootState::Quarantined {
-            return KernAnswer::Quarantined {
-                id: mapped.id,
-                path_len: mapped.path_len,
-            };
+            return KernAnswer::Quarantined { id, path_len };
         }
-        self.hold(thread, mapped, right, exclusive)
+        owners_law();
+        let pages = self.owners.count(id);
+        let target = Target {
+            id,
+            root,
+            pages,
+            path_len,
+        };
+        self.hold(thread, target, right, exclusive)
     }
 
     // Makes a thread hold a coffer, if nobody stands against it, under a key that is free.
-    fn hold(&mut self, thread: u16, mapped: Mapped, right: Right, exclusive: bool) -> KernAnswer
+    fn hold(&mut self, thread: u16, target: Target, right: Right, exclusive: bool) -> KernAnswer
         requires started { IsSome (process_of self.old.callers.threads thread) }
-        requires least { 1 ≤ mapped.id }
-        requires most { mapped.id ≤ 256 }
-        ensures { FollowsRow (hold_row self.old.callers self.old.holders thread right exclusive mapped) self.old result self.new }
+        requires least { 1 ≤ target.id }
+        requires most { target.id ≤ 256 }
+        ensures { FollowsRow (hold_row self.old.callers self.old.holders thread right exclusive (mapped_under 0 target)) self.old result self.new }
     {
-        let Mapped { id, path_len, .. } = mapped;
+        let Target { id, path_len, .. } = target;
         match self.tables.map(thread, id, right, exclusive, &[]) {
-            Ok(key) => KernAnswer::Mapped(Mapped { key, ..mapped }),
+            Ok(key) => KernAnswer::Mapped(target.mapped(key)),
             Err(MapFault::InUse(thread)) => KernAnswer::InUse {
                 thread,
                 id,
@@ -129,6 +150,7 @@ fn cred_in(processes: &[(u8, Cred)], process: u8) -> Cred
     unreachable!()
 }
 
+// Credentials with these numbers, which are seen to be of 32 bits.
 fn numbered(uid: u32, gid: u32) -> Cred
     ensures same { result ≡ record { uid = uid; gid = gid } }
     ensures fit { IsFit result }

@@ -20,7 +20,7 @@ use kern_pages::{Owners, owners_law};
 use kern_view::first_fault;
 use page_rights::Tables;
 use pm_words::{NoMemory, Words};
-use std::alloc::Global;
+use std::alloc::{AllocError, Global};
 use thiserror::Error;
 
 /// Why the kernel doesn't take an image.
@@ -31,6 +31,16 @@ pub enum MountFault {
     BadKernel(u64),
     #[error("out of memory")]
     NoMemory,
+}
+
+impl From<AllocError> for MountFault {
+    ghost use Rattle.kern_calls.specs.declared.mount.MountFault.TheVariants.{NoMemory};
+
+    ghost from_gives = { λ _ fault. fault ≡ NoMemory };
+
+    fn from(_: AllocError) -> MountFault {
+        MountFault::NoMemory
+    }
 }
 
 impl Kernel {
@@ -56,21 +66,15 @@ impl Kernel {
         ensures mounted { IfOk result (λ kernel. IsDurable words.new committed_word 0 → IsMounted kernel words.new) }
         ensures len { length words.new ≡ length words.old }
     {
-        match first_fault(alloc, words) {
-            Ok(None) => {}
-            Ok(Some(place)) => return Err(MountFault::BadKernel(place)),
-            Err(_) => return Err(MountFault::NoMemory),
+        match first_fault(alloc, words)? {
+            None => {}
+            Some(place) => return Err(MountFault::BadKernel(place)),
         }
         // Finishing the pairs changes nothing of what the kernel reads.
         view_law();
-        match redo(alloc, words) {
-            Ok(()) => {}
-            Err(_) => return Err(MountFault::NoMemory),
-        }
-        match Kernel::over(alloc, words) {
-            Ok(kernel) => Ok(kernel),
-            Err(_) => Err(MountFault::NoMemory),
-        }
+        redo(alloc, words)?;
+        let kernel = Kernel::over(alloc, words)?;
+        Ok(kernel)
     }
 
     // Over words of which no rule of the kernel's pages fails, with nothing started.

@@ -1,5 +1,5 @@
 -- Rows that change no word: Find, Map, Unmap.
-use Rattle.std.proofs.Common.{◌≡◌, ◌≢◌, ℕ, true, not, List, [], Option, None, arith}
+use Rattle.std.proofs.Common.{◌≡◌, ◌≢◌, ℕ, true, not, List, [], Option, arith}
 use Rattle.std.specs.Prelude.{All, Bool}
 use Rattle.std.proofs.lemmas.Bool.{and_parts}
 use Rattle.std.proofs.lemmas.List.Elements.{All-nil, All-push, All-filter}
@@ -9,9 +9,8 @@ use Rattle.tr_types.specs.KernelView.{pages_of}
 use Rattle.tr_types.specs.Journal.{kernel_word}
 use Rattle.tr_types.specs.KernelTables.{is_id, stands_in}
 use Rattle.tr_types.specs.Rights.{key_for, is_row_of, without_row}
-use Rattle.tr_types.specs.KernelCalls.{Callers, first_due, row_of_maps, located, key_or_none, find_row, map_row, unmap_row, IsCall}
-use Rattle.tr_types.specs.Commits.{IsOuter, IsWorking, IsCaller}
-use Rattle.tr_types.specs.declared.kernel_call.Kcall.TheVariants as call
+use Rattle.tr_types.specs.KernelCalls.{Callers, row_of_maps, located, key_or_none, find_row, map_row, unmap_row}
+use Rattle.tr_types.specs.Commits.{IsOuter, IsWorking}
 use Rattle.tr_types.specs.declared.kernel_call.KernAnswer.{KernAnswer}
 use Rattle.tr_types.specs.declared.kernel_call.Holder.{Holder}
 use Rattle.tr_types.specs.declared.permission.Right.{Right}
@@ -31,14 +30,12 @@ maps_keep words old holders refusals answer w ids held = record {
   held = λ after same. held_still (pages_of words) (kernel_word words) after holders (same_coffers (pages_of words) (kernel_word words) after same) ids held;
 }
 
-pub find_keeps : (callers : Callers) (words : List Word) (holders : List Holder) (thread now : ℕ) (path : List ℕ) (also : Option (List ℕ)) → IsWorking words holders
-    → IsCaller callers thread (call.Find path also) → IsCall (call.Find path also) → first_due (find_row words holders path also).refusals ≡ None → KeepsTables words (find_row words holders path also)
-find_keeps callers words holders thread now path also w caller is due = maps_keep words holders holders _ _ w w.ids w.held
+pub find_keeps : (words : List Word) (holders : List Holder) (path : List ℕ) (also : Option (List ℕ)) → IsWorking words holders → KeepsTables words (find_row words holders path also)
+find_keeps words holders path also w = maps_keep words holders holders _ _ w w.ids w.held
 
-pub map_keeps : (callers : Callers) (words : List Word) (holders : List Holder) (thread now : ℕ) (path : List ℕ) (right : Right) (exclusive : Bool) → IsWorking words holders
-    → IsCaller callers thread (call.Map path right exclusive) → IsCall (call.Map path right exclusive) → first_due (map_row callers words holders thread path right exclusive).refusals ≡ None
+pub map_keeps : (callers : Callers) (words : List Word) (holders : List Holder) (thread : ℕ) (path : List ℕ) (right : Right) (exclusive : Bool) → IsWorking words holders
     → KeepsTables words (map_row callers words holders thread path right exclusive)
-map_keeps callers words holders thread now path right exclusive w caller is due =
+map_keeps callers words holders thread path right exclusive w =
     maps_keep words holders _ _ _ w
     (All-push (λ (h : Holder). is_id h.id ≡ true) (without_row thread id holders) mine (All-filter (λ h. not (is_row_of thread id h)) (λ (h : Holder). is_id h.id ≡ true) holders w.ids) there.0)
     (All-push (λ (h : Holder). stands_in pages at h.id ≡ true) (without_row thread id holders) mine (All-filter (λ h. not (is_row_of thread id h)) (λ (h : Holder). stands_in pages at h.id ≡ true) holders w.held) there.1)
@@ -58,8 +55,7 @@ map_keeps callers words holders thread now path right exclusive w caller is due 
     there : (is_id id ≡ true) × (stands_in pages at id ≡ true)
     there = and_parts (is_id id) (stands_in pages at id) (located_there words path (tables_of words w.sound))
 
-pub unmap_keeps : (callers : Callers) (words : List Word) (holders : List Holder) (thread now id : ℕ) → IsWorking words holders → IsCaller callers thread (call.Unmap id) → IsCall (call.Unmap id)
-    → first_due (unmap_row holders thread id).refusals ≡ None → KeepsTables words (unmap_row holders thread id)
-unmap_keeps callers words holders thread now id w caller is due =
+pub unmap_keeps : (words : List Word) (holders : List Holder) (thread id : ℕ) → IsWorking words holders → KeepsTables words (unmap_row holders thread id)
+unmap_keeps words holders thread id w =
     maps_keep words holders (without_row thread id holders) _ _ w (All-filter (λ h. not (is_row_of thread id h)) (λ (h : Holder). is_id h.id ≡ true) holders w.ids)
     (All-filter (λ h. not (is_row_of thread id h)) (λ (h : Holder). stands_in (pages_of words) (kernel_word words) h.id ≡ true) holders w.held)

@@ -32,9 +32,9 @@ pub record MovesKeep : Type 0 where
       → CallKeeps callers words holders thread now (call.Merge child parent pages link guard)
 
 call_keeps : PermLaw → StateLaw → MovesKeep → (callers : Callers) (words : List Word) (holders : List Holder) (thread now : ℕ) (kcall : Kcall) → CallKeeps callers words holders thread now kcall
-call_keeps perm state moves callers words holders thread now (call.Find path also) = find_keeps callers words holders thread now path also
-call_keeps perm state moves callers words holders thread now (call.Map path right exclusive) = map_keeps callers words holders thread now path right exclusive
-call_keeps perm state moves callers words holders thread now (call.Unmap id) = unmap_keeps callers words holders thread now id
+call_keeps perm state moves callers words holders thread now (call.Find path also) = λ w caller is due. find_keeps words holders path also w
+call_keeps perm state moves callers words holders thread now (call.Map path right exclusive) = λ w caller is due. map_keeps callers words holders thread path right exclusive w
+call_keeps perm state moves callers words holders thread now (call.Unmap id) = λ w caller is due. unmap_keeps words holders thread id w
 call_keeps perm state moves callers words holders thread now (call.New parent path kind mode link guard) = moves.new callers words holders thread now parent path kind mode link guard
 call_keeps perm state moves callers words holders thread now (call.Delete id parent link guard) = moves.delete callers words holders thread now id parent link guard
 call_keeps perm state moves callers words holders thread now (call.Enlarge id count) = enlarge_keeps callers words holders thread now id count

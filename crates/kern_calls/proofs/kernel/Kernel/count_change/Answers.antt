@@ -8,8 +8,10 @@ use Rattle.kern_calls.proofs.kernel.Kernel.count_change.Goals as goal
 pub count_events-requires-clause-may : goal.count_events-requires-clause-may
 count_events-requires-clause-may c =
     let kernel = c.args.self.now in
+    let words = c.args.words.now in
     let caller = caller_is kernel.callers c.args.thread c.args.call.now c.requires.caller (λ started. subst IsFit (c.cred_of-cred.ensures.cred started) c.cred_of-cred.ensures.fit) in
+    let keeps = c.row_law.ensures kernel.callers words kernel.holders c.args.thread c.args.now c.args.call.now c.requires.mounted.working caller c.requires.call in
     let gives = c.deref.ensures.value ∙ ap (λ (p : Plan). p.granted) c.plan-in-Ok.view_is in
     let stores = c.deref-in-Ok.ensures.value ∙ ap (λ (p : Plan). p.pairs) c.plan-in-Ok.view_is in
-    may_commit kernel c.args.words.now c.args.thread c.args.now c.args.call.now c.requires.mounted c.row_law.ensures caller c.requires.call
+    may_commit kernel words c.args.thread c.args.now c.args.call.now c.requires.mounted keeps
     c.in-Ok.plan c.in-Ok.ensures c.deref.result.now gives c.deref-in-Ok.result.now stores

@@ -1,10 +1,11 @@
 use Rattle.std.proofs.Common.{◌∙◌, ℕ, Err, ap, sym, subst}
 use Rattle.tr_types.specs.declared.kernel_call.KernAnswer.{KernAnswer}
 use Rattle.tr_types.specs.declared.kernel_call.KernAnswer.TheVariants as answer
+use Rattle.tr_types.specs.declared.kernel_call.Mapped.{Mapped}
 use Rattle.page_rights.specs.Tables.{View}
 use Rattle.page_rights.specs.declared.tables.MapFault.{MapFault}
 use Rattle.kern_calls.specs.Calls.{KernelView}
-use Rattle.kern_calls.specs.Steps.{FollowsRow, hold_row, with_key}
+use Rattle.kern_calls.specs.Steps.{FollowsRow, hold_row, mapped_under, with_key}
 use Rattle.kern_calls.proofs.MapLemmas.{held_now, held_by_another, no_key_left}
 use Rattle.kern_calls.proofs.kernel.Kernel.hold.Goals as goal
 use Rattle.kern_calls.proofs.kernel.Kernel.hold.Goals.{in-Ok, in-Err-InUse, in-Err-NoKey, in-Err-NoMemory}
@@ -18,11 +19,11 @@ unfolding with_tables
 returns c =
     let kernel = c.self.inside in
     let here : KernelView = record { callers = record { processes = kernel.processes.items; threads = kernel.tables.threads }; holders = kernel.tables.holders; owners = kernel.owners } in
-    let m = c.args.mapped in
+    let m : Mapped = mapped_under 0 c.args.target in
     let so : FollowsRow (hold_row here.callers here.holders c.args.thread c.args.right c.args.exclusive m) here c.match-map.result (with_tables here c.map.new.self) =
     elim c.match-map.branch [
       | in-Ok w ↦
-          subst (λ (r : KernAnswer). FollowsRow (hold_row here.callers here.holders c.args.thread c.args.right c.args.exclusive m) here r (with_tables here c.map.new.self)) (sym w.result-is)
+          subst (λ (r : KernAnswer). FollowsRow (hold_row here.callers here.holders c.args.thread c.args.right c.args.exclusive m) here r (with_tables here c.map.new.self)) (sym (w.result-is ∙ ap (λ (n : Mapped). answer.Mapped n) w.mapped.ensures))
           (subst (λ (tables : View). FollowsRow (hold_row here.callers here.holders c.args.thread c.args.right c.args.exclusive m) here (answer.Mapped (with_key w.in-Ok.key m)) (with_tables here tables)) (sym w.in-Ok.ensures.ok)
           (held_now here c.args.thread c.args.right c.args.exclusive m w.in-Ok.key w.in-Ok.ensures.free w.in-Ok.ensures.key))
       | in-Err-InUse w ↦

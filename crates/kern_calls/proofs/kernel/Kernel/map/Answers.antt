@@ -23,8 +23,8 @@ unwrap-root-requires c =
     let found = found_first c.args.words.now c.args.path.now c.in-Found.first c.in-Found.second (c.in-Found.ensures []) in
     entry_there c.args.words.now c.args.path.now c.requires.sound c.in-Found.first found.1 c.entry_of.result c.entry_of.ensures
 
-pub count-requires : goal.count-requires
-count-requires c =
+pub count-pages-requires : goal.count-pages-requires
+count-pages-requires c =
     let found = found_first c.args.words.now c.args.path.now c.in-Found.first c.in-Found.second (c.in-Found.ensures []) in
     (number_is c.args.words.now c.args.path.now c.requires.sound c.in-Found.first found.1).1
 
@@ -33,16 +33,16 @@ returns-then-refuses c =
     let found = found_first c.args.words.now c.args.path.now c.in-Found.first c.in-Found.second (c.in-Found.ensures []) in
     let root = c.unwrap-root.result in
     let is = entry_is c.args.words.now c.args.path.now c.requires.sound c.in-Found.first found.1 c.entry_of.result root c.entry_of.ensures c.unwrap-root.ensures in
-    let asked : c.refuses.result ≡ refuses root.perm c.args.cred c.args.right = c.refuses.ensures in
-    map_denied c.args.self.now c.args.words.now c.args.thread c.args.path.now c.args.right c.args.exclusive found.0 c.in-Found.first found.1 root is c.args.cred c.requires.cred (sym asked ∙ c.if-refuses.true)
+    let asked : c.refuses.result ≡ refuses root.perm c.cred_of-cred.result c.args.right = c.refuses.ensures in
+    map_denied c.args.self.now c.args.words.now c.args.thread c.args.path.now c.args.right c.args.exclusive found.0 c.in-Found.first found.1 root is c.cred_of-cred.result (c.cred_of-cred.ensures.cred c.requires.started) (sym asked ∙ c.if-refuses.true)
 
 pub returns-then-eq : goal.returns-then-eq
 returns-then-eq c =
     let found = found_first c.args.words.now c.args.path.now c.in-Found.first c.in-Found.second (c.in-Found.ensures []) in
     let root = c.unwrap-root.result in
     let is = entry_is c.args.words.now c.args.path.now c.requires.sound c.in-Found.first found.1 c.entry_of.result root c.entry_of.ensures c.unwrap-root.ensures in
-    let asked : c.refuses.result ≡ refuses root.perm c.args.cred c.args.right = c.refuses.ensures in
-    map_quarantined c.args.self.now c.args.words.now c.args.thread c.args.path.now c.args.right c.args.exclusive found.0 c.in-Found.first found.1 root is c.args.cred c.requires.cred (sym asked ∙ c.if-refuses.false) (search rules)
+    let asked : c.refuses.result ≡ refuses root.perm c.cred_of-cred.result c.args.right = c.refuses.ensures in
+    map_quarantined c.args.self.now c.args.words.now c.args.thread c.args.path.now c.args.right c.args.exclusive found.0 c.in-Found.first found.1 root is c.cred_of-cred.result (c.cred_of-cred.ensures.cred c.requires.started) (sym asked ∙ c.if-refuses.false) (search rules)
 
 pub hold-requires-clause-least : goal.hold-requires-clause-least
 hold-requires-clause-least c =
@@ -61,16 +61,16 @@ returns c =
     let found = found_first words c.args.path.now c.in-Found.first c.in-Found.second (c.in-Found.ensures []) in
     let root = c.unwrap-root.result in
     let is = entry_is words c.args.path.now c.requires.sound c.in-Found.first found.1 c.entry_of.result root c.entry_of.ensures c.unwrap-root.ensures in
-    let asked : c.refuses.result ≡ refuses root.perm c.args.cred c.args.right = c.refuses.ensures in
+    let asked : c.refuses.result ≡ refuses root.perm c.cred_of-cred.result c.args.right = c.refuses.ensures in
     let told : TellsOwners words = c.owners_law.ensures words in
     let owners : c.self.inside.owners ≡ owners_of words = ap (λ (k : KernelView). k.owners) c.self.view_is ∙ c.requires.told in
-    let pages : c.count.result ≡ length (coffer_pages words (located words c.args.path.now).id) =
-    c.count.ensures
+    let pages : c.count-pages.result ≡ length (coffer_pages words (located words c.args.path.now).id) =
+    c.count-pages.ensures
     ∙ ap (λ (list : List ℕ). length (pages_with c.in-Found.first.id list)) owners
     ∙ ap (λ (list : List ℕ). length list) (told.pages c.in-Found.first.id)
     ∙ ap (λ (f : FoundAt). length (coffer_pages words f.id)) found.1 in
     let first : c.in-Found.first ≡ found_for words c.args.path.now = found.1 in
-    let same : (let m : Mapped = record { id = c.in-Found.first.id; key = 0; control = root.control; root = root.root; pages = c.count.result; path_len = c.in-Found.first.path_len; perm = root.perm } in m ≡ mapped_as words (located words c.args.path.now) 0) =
+    let same : (let m : Mapped = record { id = c.in-Found.first.id; key = 0; control = root.control; root = root.root; pages = c.count-pages.result; path_len = c.in-Found.first.path_len; perm = root.perm } in m ≡ mapped_as words (located words c.args.path.now) 0) =
     λ i. record { id = (first i).id; key = 0; control = (is i).control; root = (is i).root; pages = pages i; path_len = (first i).path_len; perm = (is i).perm } in
-    map_held kernel words c.args.thread c.args.path.now c.args.right c.args.exclusive found.0 c.in-Found.first found.1 root is c.args.cred c.requires.cred _ c.hold.result c.hold.new.self
+    map_held kernel words c.args.thread c.args.path.now c.args.right c.args.exclusive found.0 c.in-Found.first found.1 root is c.cred_of-cred.result (c.cred_of-cred.ensures.cred c.requires.started) _ c.hold.result c.hold.new.self
     (sym asked ∙ c.if-refuses.false) (search rules) same c.hold.ensures
