@@ -36,7 +36,7 @@ stored_spares count addr [] room homes home none = All-nil (Spares addr)
 stored_spares count addr (p ∷ pairs) room homes home none = journal_spares count addr (in_order (p ∷ pairs)) room homes home none
 
 -- a word that a pair names has the value that is laid over it
-named_is : (words : List Word) (pairs : List (ℕ × ℕ)) (old : List Word) (addr default : ℕ) → IsReady old pairs → All (λ (p : ℕ × ℕ). IsDurable words p.0 p.1) pairs → IsNamed pairs addr
+pub named_is : (words : List Word) (pairs : List (ℕ × ℕ)) (old : List Word) (addr default : ℕ) → IsReady old pairs → All (λ (p : ℕ × ℕ). IsDurable words p.0 p.1) pairs → IsNamed pairs addr
     → IsDurable words addr (laid_over pairs addr default)
 named_is words pairs old addr default ready done named =
     let (k, lt, at) = named_place pairs addr named in
@@ -57,11 +57,11 @@ module _ (words : List Word) (granted : List ℕ) (pairs : List (ℕ × ℕ)) (m
   away : (addr : ℕ) → (Contains granted (addr / 4096) → ⊥) → All (λ page. addr / 4096 ≢ page) granted
   away addr none k d lt e = none (subst (Contains granted) (sym e) (Contains-get_or granted k d lt))
 
-  spares_journal : All (Spares committed_word) (zero_events granted)
+  pub spares_journal : All (Spares committed_word) (zero_events granted)
   spares_journal =
       zeroes_spare committed_word granted refl (All-weaker (IsOuter words) (λ page. committed_word / 4096 ≢ page) (λ page outer e. let past = outer.past in omega (arith, past, e)) granted may.pages)
 
-  ready : IsReady mid (in_order pairs)
+  pub ready : IsReady mid (in_order pairs)
   ready = record {
     size = subst HasPages (sym len_mid) may.size;
     room = subst (λ (n : ℕ). length (in_order pairs) ≤ pair_capacity (n / 512)) (sym len_mid) may.room;

@@ -1,6 +1,8 @@
 // Laws of the definitions alone: functions that do nothing, for what they ensure.
 ghost use Rattle.tr_types.specs.Commits.{RowLaw, StoreLaw};
+ghost use Rattle.kern_laws.specs.Crashes.{CallCrashLaw};
 
+use kern_commit::crash_law as commit_crash_law;
 use kern_roots::{add_law, drop_law, perm_law, state_law};
 
 /// Where no refusal of a call's row is due, what it commits can be committed, and the kernel works over
@@ -18,3 +20,16 @@ pub fn row_law()
 pub fn store_law()
     ensures { StoreLaw }
 {}
+
+/// A crash at any moment inside of a call that isn't refused, and the mount after it, leave all of the
+/// call's words or none; all, where the call had come to its end. Any number of crashes may come inside of
+/// that mount and of those that follow. None is: each word that the call would store is as a crash might
+/// have left it before, and so is every other word outside the journal, but that pages which the call
+/// would give may be zeroed in part. All is: what the call stores is durable, and the pages that it gives
+/// are zeroed.
+pub fn crash_law()
+    ensures { CallCrashLaw }
+{
+    row_law();
+    commit_crash_law();
+}
