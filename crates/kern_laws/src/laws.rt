@@ -1,6 +1,7 @@
 // Laws of the definitions alone: functions that do nothing, for what they ensure.
 ghost use Rattle.tr_types.specs.Commits.{RowLaw, StoreLaw};
-ghost use Rattle.kern_laws.specs.Crashes.{CallCrashLaw};
+ghost use Rattle.kern_laws.specs.Rows.{TablesLaw};
+ghost use Rattle.kern_laws.specs.Crashes.{CallCrashLaw, KernelCrashLaw};
 
 use kern_commit::crash_law as commit_crash_law;
 use kern_roots::{add_law, drop_law, perm_law, state_law};
@@ -9,6 +10,13 @@ use kern_roots::{add_law, drop_law, perm_law, state_law};
 /// what is left, with the row's holders.
 pub fn row_law()
     ensures { RowLaw }
+{
+    tables_law();
+}
+
+// What each row leaves of the kernel's tables.
+fn tables_law()
+    ensures { TablesLaw }
 {
     add_law();
     drop_law();
@@ -27,9 +35,13 @@ pub fn store_law()
 /// have left it before, and so is every other word outside the journal, but that pages which the call
 /// would give may be zeroed in part. All is: what the call stores is durable, and the pages that it gives
 /// are zeroed.
+///
+/// Where a crash could change nothing of the kernel's pages before the call, the kernel then reads all of
+/// them as before the call, or all as after it, and works over what is left.
 pub fn crash_law()
-    ensures { CallCrashLaw }
+    ensures call { CallCrashLaw }
+    ensures kernel { KernelCrashLaw }
 {
-    row_law();
+    tables_law();
     commit_crash_law();
 }
