@@ -2,7 +2,7 @@
 use Rattle.std.proofs.Common.{◌≡◌, ◌≢◌, ◌⊎◌, inl, inr, ℕ, ◌-◌, ◌/◌, ◌<◌, ◌≤◌, List, [], ◌∷◌, ◌++◌, take, length, get_or, refl, sym, ap, subst, ◌∙◌, arith, All, Contains}
 use Rattle.std.proofs.lemmas.Bool.{cases_lt}
 use Rattle.std.proofs.lemmas.List.{take_all, take-append-le, append-nil}
-use Rattle.std.proofs.lemmas.List.Elements.{All-take, All-weaker}
+use Rattle.std.proofs.lemmas.List.Elements.{All-take, All-append}
 use Rattle.std.proofs.lemmas.List.Sums.{fold-append}
 use Rattle.zo_layout.specs.Layout.{committed_word}
 use Rattle.pm_words.specs.Word.{Word, crash_list}
@@ -15,16 +15,16 @@ use Rattle.tr_types.specs.JournalLaws.{IsDurable, IsUnnamed, MayCome}
 use Rattle.tr_types.specs.JournalLaws as journal
 use Rattle.tr_types.specs.KernelCalls.{in_order, zero_events, stored_events}
 use Rattle.tr_types.specs.Commits.{IsOuter, MayCommit, IsCommitted, present_at}
-use Rattle.tr_types.proofs.WordSteps.{Spares, length_run}
+use Rattle.tr_types.proofs.WordSteps.{Spares, length_run, within_shortened}
 use Rattle.tr_types.proofs.LaidLemmas.{IsNamed, named_at, named_cases, laid_unnamed}
-use Rattle.tr_types.proofs.PhaseLemmas.{durable_kept, one_value, take_past}
+use Rattle.tr_types.proofs.PhaseLemmas.{kept_by, durable_kept, one_value, take_past}
 use Rattle.tr_types.proofs.GivenSteps.{zeroes_spare}
 use Rattle.tr_types.proofs.CutLemmas.{durable_crashed}
 use Rattle.tr_types.proofs.CrashLemmas.{idle_readable, crash_anywhere}
 use Rattle.kern_commit.proofs.OrderLemmas.{in_order_all, laid_in_order, named_in_order, named_place}
 use Rattle.kern_commit.proofs.ZeroedLemmas.{zeroed_durable}
-use Rattle.kern_commit.proofs.CommitLemmas.{named_is, spares_journal, ready, committed_is}
-use Rattle.kern_commit.specs.Crashes.{IsThere, IsAsBefore, IsWholeOrNone, Survives, CommitCrashLaw}
+use Rattle.kern_commit.proofs.CommitLemmas.{named_is, away, stored_spares, spares_journal, ready, committed_is}
+use Rattle.kern_commit.specs.Crashes.{IsThere, IsAsBefore, IsWholeOrNone, Survives, CommitCrashLaw, OthersLaw}
 use Rattle.kern_commit.proofs.CrashWords.{Clears, zeros_clear, cleared, redo_none, idle_crashes}
 
 module _ (words : List Word) (granted : List ℕ) (pairs : List (ℕ × ℕ)) (may : MayCommit words granted pairs) where
@@ -185,3 +185,11 @@ module _ (words : List Word) (granted : List ℕ) (pairs : List (ℕ × ℕ)) (m
 
 pub commits_survive : CommitCrashLaw
 commits_survive words granted pairs count cuts left after may = survives words granted pairs may count cuts left after
+
+pub others_kept : OthersLaw
+others_kept words granted pairs addr may home apart none =
+    let short =
+    kept_by (zero_events granted ++ stored_events pairs) words addr home.inside.inside
+    (All-append (Spares addr) (zero_events granted) (stored_events pairs) (zeroes_spare addr granted home.inside.aligned (away words granted pairs may addr apart))
+    (stored_spares (length words) addr pairs may.room (in_order_all (λ (p : ℕ × ℕ). IsHome (length words) p.0) pairs may.homes) home (in_order_all (λ (p : ℕ × ℕ). p.0 ≢ addr) pairs none))) in
+    record { present = short.present; list = within_shortened (word_at words addr) (word_at (made_all (zero_events granted ++ stored_events pairs) words) addr) short }

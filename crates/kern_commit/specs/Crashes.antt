@@ -6,7 +6,7 @@ use Rattle.pm_words.specs.Memory.{word_at}
 use Rattle.pm_words.specs.Crash.{MayLeave}
 use Rattle.tr_types.specs.Journal.{IsHome, IsReadable, laid_over}
 use Rattle.tr_types.specs.Inner.{made_all, redo_events}
-use Rattle.tr_types.specs.JournalLaws.{IsDurable, IsUnnamed, MayCome}
+use Rattle.tr_types.specs.JournalLaws.{IsDurable, IsUnnamed, Keeps, MayCome}
 use Rattle.tr_types.specs.KernelCalls.{zero_events, stored_events}
 use Rattle.tr_types.specs.Commits.{MayCommit, present_at}
 
@@ -38,3 +38,9 @@ abbrev pub CommitCrashLaw : Type 0
 CommitCrashLaw =
     (words : List Word) (granted : List ℕ) (pairs : List (ℕ × ℕ)) (count : ℕ) (cuts : List ℕ) (left after : List Word) → MayCommit words granted pairs
     → MayLeave (made_all (take count (zero_events granted ++ stored_events pairs)) words) left → MayCome cuts left after → Survives granted pairs words count after
+
+-- A whole commit leaves every other word outside the journal its value, and a crash leaves nothing there that it mightn't have left before.
+abbrev pub OthersLaw : Type 0
+OthersLaw =
+    (words : List Word) (granted : List ℕ) (pairs : List (ℕ × ℕ)) (addr : ℕ) → MayCommit words granted pairs → IsHome (length words) addr → (Contains granted (addr / 4096) → ⊥) → IsUnnamed pairs addr
+    → Keeps (word_at words addr) (word_at (made_all (zero_events granted ++ stored_events pairs) words) addr)

@@ -1,6 +1,6 @@
 // Laws of the definitions alone: functions that do nothing, for what they ensure.
 ghost use Rattle.tr_types.specs.Commits.{CommitLaw};
-ghost use Rattle.kern_commit.specs.Crashes.{CommitCrashLaw};
+ghost use Rattle.kern_commit.specs.Crashes.{CommitCrashLaw, OthersLaw};
 
 /// What a commit leaves: the given pages are zeroed, each pair is stored, all that is durable, and every
 /// other word outside the journal has the value that it had.
@@ -11,7 +11,9 @@ pub fn commit_law()
 /// A crash at any moment inside of a commit, any crashes inside of the `redo` that follows, and then a
 /// whole `redo`: all pairs are stored and the given pages zeroed, or each word that a pair names is as a
 /// crash might have left it before. Given pages may be zeroed in part, and every other word outside the
-/// journal is as a crash might have left it. Where the commit was at its end, all is there.
+/// journal is as a crash might have left it. Where the commit was at its end, all is there, and a crash leaves
+/// nothing in another word that it mightn't have left before the commit.
 pub fn crash_law()
-    ensures { CommitCrashLaw }
+    ensures inside { CommitCrashLaw }
+    ensures others { OthersLaw }
 {}

@@ -24,7 +24,7 @@ use Rattle.kern_laws.proofs.TablesLemmas.{tables_same, tables_of}
 use Rattle.kern_laws.proofs.FrameLemmas.{SameFront, works}
 
 -- what holds at each pair's address holds at one that a pair names
-named_has : (P : ℕ → Type 0) (pairs : List (ℕ × ℕ)) (addr : ℕ) → IsNamed pairs addr → All (λ (p : ℕ × ℕ). P p.0) pairs → P addr
+pub named_has : (P : ℕ → Type 0) (pairs : List (ℕ × ℕ)) (addr : ℕ) → IsNamed pairs addr → All (λ (p : ℕ × ℕ). P p.0) pairs → P addr
 named_has P [] addr named all = absurd (false≢true named)
 named_has P (p ∷ pairs) addr named all = by (or_cases (nat_eq p.0 addr) (list_any (λ (q : ℕ × ℕ). nat_eq q.0 addr) pairs) named) (λ more. named_has P pairs addr more (All-tail (λ (q : ℕ × ℕ). P q.0) p pairs all))
   where
@@ -32,7 +32,7 @@ named_has P (p ∷ pairs) addr named all = by (or_cases (nat_eq p.0 addr) (list_
     by (inl own) rest = subst P (eqb-true p.0 addr own) (All-head (λ (q : ℕ × ℕ). P q.0) p pairs all)
     by (inr more) rest = rest more
 
-module _ (words : List Word) (holders : List Holder) (row : Row) (w : IsWorking words holders) (k : KeepsTables words row) (steady : HasSteadyTables words) (new : List Word) (s : IsWholeOrNone row.granted row.pairs words new) where
+module _ (words : List Word) (holders : List Holder) (row : Row) (w : IsWorking words holders) (k : KeepsTables words row) (steady : HasSteadyTables words) (new : List Word) (s : IsWholeOrNone row.granted row.pairs words new) (still : HasSteadyTables new) where
   -- a word of the kernel's pages that is as before has the value that it had
   was : (addr : ℕ) → IsHome (length words) addr → addr / 4096 < kernel_pages (pages_of words) → IsAsBefore row.granted words new addr → present_at new addr ≡ present_at words addr
   was addr home low (inl there) = steady addr home low (present_at new addr) there
@@ -112,10 +112,12 @@ module _ (words : List Word) (holders : List Holder) (row : Row) (w : IsWorking 
         works =
             works_on (front (read_after row.pairs (present_at words)) (behind there) (spared signature_word (λ p apart. apart.0)) (spared version_word (λ p apart. apart.1)) (spared count_word (λ p apart. apart.2)))
             (k.tables (kernel_word new) (same (read_after row.pairs (present_at words)) (read_after row.pairs (kernel_word words)) (behind there) laid));
+        steady = still;
       }
       by (inr all) = record {
         either = inl (told (kernel_word words) (λ addr home low. before all addr home low ∙ reads_old addr));
         works =
             works_on (front (present_at words) (before all) refl refl refl)
             (tables_same (pages_of words) (kernel_word words) (kernel_word new) (same (present_at words) (kernel_word words) (before all) reads_old) (tables_of words w.sound));
+        steady = still;
       }

@@ -51,3 +51,5 @@ pub mod MergeKeeps
 pub mod SplitKeeps
 -- what the kernel reads of its pages after a crash inside of a call
 pub mod CrashTables
+-- a crash changes no word of the kernel's pages
+pub mod CrashSteady

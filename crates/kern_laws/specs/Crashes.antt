@@ -35,10 +35,12 @@ HasSteadyTables words =
 abbrev pub ReadsTables : List Word → (ℕ → ℕ) → Type 0
 ReadsTables words at = (addr : ℕ) → IsHome (length words) addr → addr / 4096 < kernel_pages (pages_of words) → kernel_word words addr ≡ at addr
 
--- after such crashes and a mount: the kernel reads what it read before the call, or what it reads after it; and no rule of its pages fails
+-- After such crashes and a mount: the kernel reads what it read before the call, or what it reads after it; no rule of its pages fails,
+-- and a crash changes no word of them.
 pub record KernelSurvives (row : Row) (words new : List Word) : Type 0 where
   pub either : ReadsTables new (kernel_word words) ⊎ ReadsTables new (read_after row.pairs (kernel_word words))
   pub works : IsWorking new []
+  pub steady : HasSteadyTables new
 
 abbrev pub KernelCrashLaw : Type 0
 KernelCrashLaw =
@@ -46,3 +48,9 @@ KernelCrashLaw =
     → first_due (row_of callers words holders thread now kcall).refusals ≡ None → HasSteadyTables words
     → (count : ℕ) (cuts : List ℕ) (left after : List Word) → MayLeave (made_all (take count (row_events (row_of callers words holders thread now kcall))) words) left → MayCome cuts left after
     → KernelSurvives (row_of callers words holders thread now kcall) words (made_all (redo_events after) after)
+
+-- a whole call leaves the kernel's pages such that a crash changes no word of them
+abbrev pub SteadyLaw : Type 0
+SteadyLaw =
+    (callers : Callers) (words : List Word) (holders : List Holder) (thread now : ℕ) (kcall : Kcall) → IsWorking words holders → IsCaller callers thread kcall → IsCall kcall
+    → first_due (row_of callers words holders thread now kcall).refusals ≡ None → HasSteadyTables words → HasSteadyTables (made_all (row_events (row_of callers words holders thread now kcall)) words)

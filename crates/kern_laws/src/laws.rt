@@ -1,9 +1,9 @@
 // Laws of the definitions alone: functions that do nothing, for what they ensure.
 ghost use Rattle.tr_types.specs.Commits.{RowLaw, StoreLaw};
 ghost use Rattle.kern_laws.specs.Rows.{TablesLaw};
-ghost use Rattle.kern_laws.specs.Crashes.{CallCrashLaw, KernelCrashLaw};
+ghost use Rattle.kern_laws.specs.Crashes.{CallCrashLaw, KernelCrashLaw, SteadyLaw};
 
-use kern_commit::crash_law as commit_crash_law;
+use kern_commit::{commit_law, crash_law as commit_crash_law};
 use kern_roots::{add_law, drop_law, perm_law, state_law};
 
 /// Where no refusal of a call's row is due, what it commits can be committed, and the kernel works over
@@ -37,11 +37,14 @@ pub fn store_law()
 /// are zeroed.
 ///
 /// Where a crash could change nothing of the kernel's pages before the call, the kernel then reads all of
-/// them as before the call, or all as after it, and works over what is left.
+/// them as before the call, or all as after it, and works over what is left. A crash could change nothing
+/// of these pages then, nor after a whole call.
 pub fn crash_law()
     ensures call { CallCrashLaw }
     ensures kernel { KernelCrashLaw }
+    ensures steady { SteadyLaw }
 {
     tables_law();
+    commit_law();
     commit_crash_law();
 }
