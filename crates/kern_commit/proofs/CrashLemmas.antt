@@ -14,7 +14,7 @@ use Rattle.tr_types.specs.Inner.{made, made_all, journal_events, redo_events}
 use Rattle.tr_types.specs.JournalLaws.{IsDurable, IsUnnamed, MayCome}
 use Rattle.tr_types.specs.JournalLaws as journal
 use Rattle.tr_types.specs.KernelCalls.{in_order, zero_events, stored_events}
-use Rattle.tr_types.specs.Commits.{IsOuter, MayCommit, IsCommitted, present_at}
+use Rattle.tr_types.specs.Commits.{MayCommit, IsCommitted, present_at}
 use Rattle.tr_types.proofs.WordSteps.{Spares, length_run, within_shortened}
 use Rattle.tr_types.proofs.LaidLemmas.{IsNamed, named_at, named_cases, laid_unnamed}
 use Rattle.tr_types.proofs.PhaseLemmas.{kept_by, durable_kept, one_value, take_past}
@@ -24,7 +24,7 @@ use Rattle.tr_types.proofs.CrashLemmas.{idle_readable, crash_anywhere}
 use Rattle.kern_commit.proofs.OrderLemmas.{in_order_all, laid_in_order, named_in_order, named_place}
 use Rattle.kern_commit.proofs.ZeroedLemmas.{zeroed_durable}
 use Rattle.kern_commit.proofs.CommitLemmas.{named_is, away, stored_spares, spares_journal, ready, committed_is}
-use Rattle.kern_commit.specs.Crashes.{IsThere, IsAsBefore, IsWholeOrNone, Survives, CommitCrashLaw, OthersLaw}
+use Rattle.kern_commit.specs.Crashes.{IsThere, IsAsBefore, Survives, CommitCrashLaw, OthersLaw}
 use Rattle.kern_commit.proofs.CrashWords.{Clears, zeros_clear, cleared, redo_none, idle_crashes}
 
 module _ (words : List Word) (granted : List ℕ) (pairs : List (ℕ × ℕ)) (may : MayCommit words granted pairs) where

@@ -90,7 +90,7 @@ cleared pages es words addr value at clears some there = by (among (addr / 4096)
     by (inl given) = in_page given (run_clears addr es (word_at words addr) clears value (subst (λ (w : Word). Contains (crash_list w) value) (run_at es words addr at.inside) there))
     by (inr apart) = inl (within_shortened (word_at words addr) (word_at (made_all es words) addr) (kept_by es words addr at.inside (some (zeroes_spare addr pages at.aligned apart))) value there)
 
--- Where nothing is committed, a mount has nothing to finish, and crashes inside of mounts are one crash.
+-- Where nothing is committed, nothing is finished, and crashes one after another are one crash.
 
 pub redo_none : (words : List Word) → IsDurable words committed_word 0 → redo_events words ≡ []
 redo_none words idle = ap (λ (ps : List (ℕ × ℕ)). finish_any ps) (none_committed words idle)

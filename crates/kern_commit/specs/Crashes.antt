@@ -1,4 +1,4 @@
--- What a crash inside of a commit leaves, once the image is mounted again.
+-- What a crash inside of a commit leaves, once the committed pairs are finished.
 use Rattle.std.specs.Prelude.{◌≡◌, ◌⊎◌, ℕ, ◌/◌, ◌≤◌, List, ◌++◌, length, take, All, Contains}
 use Rattle.zo_layout.specs.Layout.{committed_word}
 use Rattle.pm_words.specs.Word.{Word, crash_list}

@@ -11,8 +11,9 @@ pub fn commit_law()
 /// A crash at any moment inside of a commit, any crashes inside of the `redo` that follows, and then a
 /// whole `redo`: all pairs are stored and the given pages zeroed, or each word that a pair names is as a
 /// crash might have left it before. Given pages may be zeroed in part, and every other word outside the
-/// journal is as a crash might have left it. Where the commit was at its end, all is there, and a crash leaves
-/// nothing in another word that it mightn't have left before the commit.
+/// journal is as a crash might have left it. Where the commit was at its end, all is there.
+///
+/// After a whole commit a crash leaves nothing in another word that it mightn't have left before.
 pub fn crash_law()
     ensures inside { CommitCrashLaw }
     ensures others { OthersLaw }

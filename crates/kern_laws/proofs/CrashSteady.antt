@@ -1,15 +1,15 @@
--- A crash changes no word of the kernel's pages: after a mount, and after a call.
-use Rattle.std.proofs.Common.{◌≡◌, ◌⊎◌, inl, inr, ℕ, ◌/◌, ◌<◌, List, [], ◌∷◌, take, length, get_or, sym, ap, subst, ◌∙◌, arith}
-use Rattle.std.specs.Prelude.{All, Contains}
+-- A crash changes no word of the kernel's pages: after crashes and a whole `redo`, and after a call.
+use Rattle.std.proofs.Common.{◌≡◌, ◌⊎◌, inl, inr, ℕ, ◌/◌, ◌<◌, List, [], ◌∷◌, take, length, sym, ap, subst, ◌∙◌, arith}
+use Rattle.std.specs.Prelude.{Contains}
 use Rattle.std.proofs.lemmas.List.Elements.{All-contains}
 use Rattle.zo_layout.specs.Layout.{kernel_pages}
-use Rattle.pm_words.specs.Word.{Word, crash_list}
+use Rattle.pm_words.specs.Word.{Word}
 use Rattle.pm_words.specs.Memory.{word_at, HasPages}
 use Rattle.pm_words.specs.Crash.{MayLeave}
 use Rattle.tr_types.specs.KernelView.{pages_of}
-use Rattle.tr_types.specs.Journal.{IsHome, IsReadable, committed, laid_over}
+use Rattle.tr_types.specs.Journal.{IsHome, IsReadable, committed}
 use Rattle.tr_types.specs.Inner.{made_all, redo_events}
-use Rattle.tr_types.specs.JournalLaws.{IsDurable, IsUnnamed, IsFinished, MayCome}
+use Rattle.tr_types.specs.JournalLaws.{IsUnnamed, IsFinished, MayCome}
 use Rattle.tr_types.specs.KernelCalls.{Row, row_events}
 use Rattle.tr_types.specs.Commits.{IsOuter, IsCommitted, CommitLaw, present_at}
 use Rattle.tr_types.proofs.WordSteps.{length_run}

@@ -1,4 +1,4 @@
--- What a crash inside of a kernel call leaves, once the image is mounted again.
+-- What a crash inside of a kernel call leaves, once the committed pairs are finished.
 use Rattle.std.specs.Prelude.{◌≡◌, ◌⊎◌, ℕ, ◌/◌, ◌<◌, List, [], length, take, None, Contains}
 use Rattle.zo_layout.specs.Layout.{kernel_pages}
 use Rattle.pm_words.specs.Word.{Word, crash_list}
@@ -15,8 +15,8 @@ use Rattle.tr_types.specs.declared.kernel_call.Kcall.{Kcall}
 use Rattle.tr_types.specs.declared.kernel_call.Holder.{Holder}
 use Rattle.kern_commit.specs.Crashes.{Survives}
 
--- A call that isn't refused survives a crash when some number of its events are made, and any number of crashes inside of the mounts
--- that follow: all of it is there then, or none; and all, where the call has made all its events.
+-- A call that isn't refused survives a crash when some number of its events are made, and any number of crashes inside of finishing
+-- what is committed: all of it is there then, or none; and all, where the call had made all its events.
 abbrev pub CallCrashLaw : Type 0
 CallCrashLaw =
     (callers : Callers) (words : List Word) (holders : List Holder) (thread now : ℕ) (kcall : Kcall) → IsWorking words holders → IsCaller callers thread kcall → IsCall kcall
@@ -35,7 +35,7 @@ HasSteadyTables words =
 abbrev pub ReadsTables : List Word → (ℕ → ℕ) → Type 0
 ReadsTables words at = (addr : ℕ) → IsHome (length words) addr → addr / 4096 < kernel_pages (pages_of words) → kernel_word words addr ≡ at addr
 
--- After such crashes and a mount: the kernel reads what it read before the call, or what it reads after it; no rule of its pages fails,
+-- After such crashes, and a whole `redo`: the kernel reads what it read before the call, or what it reads after it; no rule of its pages fails,
 -- and a crash changes no word of them.
 pub record KernelSurvives (row : Row) (words new : List Word) : Type 0 where
   pub either : ReadsTables new (kernel_word words) ⊎ ReadsTables new (read_after row.pairs (kernel_word words))

@@ -29,12 +29,12 @@ pub fn store_law()
     ensures { StoreLaw }
 {}
 
-/// A crash at any moment inside of a call that isn't refused, and the mount after it, leave all of the
-/// call's words or none; all, where the call had come to its end. Any number of crashes may come inside of
-/// that mount and of those that follow. None is: each word that the call would store is as a crash might
-/// have left it before, and so is every other word outside the journal, but that pages which the call
-/// would give may be zeroed in part. All is: what the call stores is durable, and the pages that it gives
-/// are zeroed.
+/// A crash at any moment inside of a call that isn't refused, and then a whole `redo`, by which a mount
+/// finishes what is committed, leave all of the call's words or none; all, where the call had come to its
+/// end. Any number of crashes may come inside of that `redo`. None is: each word that the call would store
+/// is as a crash might have left it before the call, and so is every other word outside the journal, but
+/// that pages which the call would give may be zeroed in part. All is: what the call stores is durable,
+/// and the pages that it gives are zeroed.
 ///
 /// Where a crash could change nothing of the kernel's pages before the call, the kernel then reads all of
 /// them as before the call, or all as after it, and works over what is left. A crash could change nothing
