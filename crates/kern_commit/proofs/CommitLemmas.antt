@@ -30,13 +30,13 @@ journal_spares count addr pairs room homes home none =
     (All-append (Spares addr) (phase (count_pair (length pairs))) (finish_events pairs) (home_from_count count addr (length pairs) home)
     (All-append (Spares addr) (phase pairs) (phase (count_pair 0)) (unnamed_spared count addr pairs homes home none) (home_from_count count addr 0 home)))
 
-stored_spares : (count addr : ℕ) (pairs : List (ℕ × ℕ)) → length (in_order pairs) ≤ pair_capacity (count / 512) → All (λ (p : ℕ × ℕ). IsHome count p.0) (in_order pairs) → IsHome count addr
+pub stored_spares : (count addr : ℕ) (pairs : List (ℕ × ℕ)) → length (in_order pairs) ≤ pair_capacity (count / 512) → All (λ (p : ℕ × ℕ). IsHome count p.0) (in_order pairs) → IsHome count addr
     → IsUnnamed (in_order pairs) addr → All (Spares addr) (stored_events pairs)
 stored_spares count addr [] room homes home none = All-nil (Spares addr)
 stored_spares count addr (p ∷ pairs) room homes home none = journal_spares count addr (in_order (p ∷ pairs)) room homes home none
 
 -- a word that a pair names has the value that is laid over it
-named_is : (words : List Word) (pairs : List (ℕ × ℕ)) (old : List Word) (addr default : ℕ) → IsReady old pairs → All (λ (p : ℕ × ℕ). IsDurable words p.0 p.1) pairs → IsNamed pairs addr
+pub named_is : (words : List Word) (pairs : List (ℕ × ℕ)) (old : List Word) (addr default : ℕ) → IsReady old pairs → All (λ (p : ℕ × ℕ). IsDurable words p.0 p.1) pairs → IsNamed pairs addr
     → IsDurable words addr (laid_over pairs addr default)
 named_is words pairs old addr default ready done named =
     let (k, lt, at) = named_place pairs addr named in
@@ -54,14 +54,14 @@ module _ (words : List Word) (granted : List ℕ) (pairs : List (ℕ × ℕ)) (m
   len_mid = length_run (zero_events granted) words
 
   -- where nothing of the pages is stored, the word has its value still
-  away : (addr : ℕ) → (Contains granted (addr / 4096) → ⊥) → All (λ page. addr / 4096 ≢ page) granted
+  pub away : (addr : ℕ) → (Contains granted (addr / 4096) → ⊥) → All (λ page. addr / 4096 ≢ page) granted
   away addr none k d lt e = none (subst (Contains granted) (sym e) (Contains-get_or granted k d lt))
 
-  spares_journal : All (Spares committed_word) (zero_events granted)
+  pub spares_journal : All (Spares committed_word) (zero_events granted)
   spares_journal =
       zeroes_spare committed_word granted refl (All-weaker (IsOuter words) (λ page. committed_word / 4096 ≢ page) (λ page outer e. let past = outer.past in omega (arith, past, e)) granted may.pages)
 
-  ready : IsReady mid (in_order pairs)
+  pub ready : IsReady mid (in_order pairs)
   ready = record {
     size = subst HasPages (sym len_mid) may.size;
     room = subst (λ (n : ℕ). length (in_order pairs) ≤ pair_capacity (n / 512)) (sym len_mid) may.room;

@@ -10,3 +10,7 @@ mod ZeroedLemmas
 mod CommitLemmas
 -- nothing is committed in a new image
 mod NewLemmas
+-- words while pages are zeroed, and crashes where nothing is committed
+mod CrashWords
+-- a crash inside of a commit leaves the whole or none
+mod CrashLemmas

@@ -5,7 +5,7 @@
 mod laws;
 mod steps;
 
-pub use laws::commit_law;
+pub use laws::{commit_law, crash_law};
 pub use steps::{commit, count_events};
 
 #[cfg(test)]

@@ -35,12 +35,12 @@ finishable words none = record {
 
 -- The kernel works over other words, where the superblock says the same, nothing is committed, and no rule of the tables fails.
 
-record SameFront (words new : List Word) : Type 0 where
-  signature : present_at new signature_word ≡ present_at words signature_word
-  version : present_at new version_word ≡ present_at words version_word
-  count : present_at new count_word ≡ present_at words count_word
+pub record SameFront (words new : List Word) : Type 0 where
+  pub signature : present_at new signature_word ≡ present_at words signature_word
+  pub version : present_at new version_word ≡ present_at words version_word
+  pub count : present_at new count_word ≡ present_at words count_word
 
-works : (words new : List Word) (old holders : List Holder) → IsWorking words old → length new ≡ length words → IsDurable new committed_word 0 → SameFront words new
+pub works : (words new : List Word) (old holders : List Holder) → IsWorking words old → length new ≡ length words → IsDurable new committed_word 0 → SameFront words new
     → TablesPass (pages_of words) (kernel_word new) → All (λ h. is_id h.id ≡ true) holders → All (λ h. stands_in (pages_of words) (kernel_word new) h.id ≡ true) holders
     → IsWorking new holders
 works words new old holders w len idle front tables ids held = record {

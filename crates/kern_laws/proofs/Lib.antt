@@ -49,3 +49,7 @@ pub mod NewKeeps
 pub mod DeleteKeeps
 pub mod MergeKeeps
 pub mod SplitKeeps
+-- what the kernel reads of its pages after a crash inside of a call
+pub mod CrashTables
+-- a crash changes no word of the kernel's pages
+pub mod CrashSteady

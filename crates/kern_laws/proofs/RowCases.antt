@@ -7,7 +7,7 @@ use Rattle.tr_types.specs.declared.kernel_call.Kcall.{Kcall}
 use Rattle.tr_types.specs.declared.kernel_call.Kcall.TheVariants as call
 use Rattle.tr_types.specs.declared.kernel_call.Holder.{Holder}
 use Rattle.kern_roots.specs.Laws.{PermLaw, StateLaw}
-use Rattle.kern_laws.specs.Rows.{KeepsTables}
+use Rattle.kern_laws.specs.Rows.{KeepsTables, TablesLaw}
 use Rattle.kern_laws.proofs.FrameLemmas.{frame}
 use Rattle.kern_laws.proofs.MapsKeep.{find_keeps, map_keeps, unmap_keeps}
 use Rattle.kern_laws.proofs.EnlargeKeeps.{enlarge_keeps}
@@ -31,7 +31,7 @@ pub record MovesKeep : Type 0 where
   pub merge : (callers : Callers) (words : List Word) (holders : List Holder) (thread now child parent : ℕ) (pages : List ℕ) (link : ℕ × ℕ × ℕ) (guard : ℕ × ℕ)
       → CallKeeps callers words holders thread now (call.Merge child parent pages link guard)
 
-call_keeps : PermLaw → StateLaw → MovesKeep → (callers : Callers) (words : List Word) (holders : List Holder) (thread now : ℕ) (kcall : Kcall) → CallKeeps callers words holders thread now kcall
+pub call_keeps : PermLaw → StateLaw → MovesKeep → TablesLaw
 call_keeps perm state moves callers words holders thread now (call.Find path also) = λ w caller is due. find_keeps words holders path also w
 call_keeps perm state moves callers words holders thread now (call.Map path right exclusive) = λ w caller is due. map_keeps callers words holders thread path right exclusive w
 call_keeps perm state moves callers words holders thread now (call.Unmap id) = λ w caller is due. unmap_keeps words holders thread id w
@@ -44,6 +44,6 @@ call_keeps perm state moves callers words holders thread now (call.Merge child p
 call_keeps perm state moves callers words holders thread now (call.Mode id mode) = mode_keeps perm callers words holders thread now id mode
 call_keeps perm state moves callers words holders thread now (call.Recover id ready) = recover_keeps state callers words holders thread now id ready
 
-pub rows_keep : PermLaw → StateLaw → MovesKeep → RowLaw
-rows_keep perm state moves callers words holders thread now kcall w caller is due =
-    frame words holders (row_of callers words holders thread now kcall) w (call_keeps perm state moves callers words holders thread now kcall w caller is due)
+pub rows_keep : TablesLaw → RowLaw
+rows_keep tables callers words holders thread now kcall w caller is due =
+    frame words holders (row_of callers words holders thread now kcall) w (tables callers words holders thread now kcall w caller is due)
