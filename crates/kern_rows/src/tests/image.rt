@@ -2,14 +2,14 @@
 // the coffer table begins in page 5, and the path buckets are in page 37.
 ghost use Rattle.std.specs.Prelude.{◌≡◌, [], length, IfOk, true};
 ghost use Rattle.zo_layout.specs.Layout.{committed_word};
-ghost use Rattle.pm_words.specs.Memory.{word_at};
+ghost use Rattle.pm_words.specs.Memory.{word_at, HasPages};
 ghost use Rattle.tr_types.specs.KernelRules.{IsSoundKernel};
 ghost use Rattle.tr_types.specs.Paths as paths;
 
 use kern_calls::MountFault;
 use kern_journal::new_image;
 use kern_view::{first_fault, is_path_text};
-use pm_words::{NoMemory, Words};
+use pm_words::{Image, NoMemory, Words};
 use std::alloc::{AllocError, Global};
 use thiserror::Error;
 use tr_types::Path;
@@ -108,11 +108,12 @@ pub fn image_with(
     }
 }
 
-/// These words, each durable.
-pub fn at_rest(alloc: Global, words: &Words) -> Result<Words, NoMemory>
-    ensures { IfOk result (λ rest. (word_at rest committed_word).older ≡ []) }
+/// The words of an image, each durable.
+pub fn at_rest(alloc: Global, image: Image) -> Result<Words, NoMemory>
+    requires { HasPages (length image) }
+    ensures { IfOk result (λ words. (word_at words committed_word).older ≡ []) }
 {
-    Words::of_image(alloc, words.image()?)
+    Words::of_image(alloc, image)
 }
 
 /// The path of a text.

@@ -29,21 +29,21 @@ pub struct Stand {
     alloc: Global,
     words: Words,
     kernel: Kernel,
-    now: u32,
+    tick: u32,
 }
 
 impl Stand {
     /// Over these words, with processes of the users 0, 5, 7 and 0, who have groups of the same numbers.
-    pub fn over(alloc: Global, words: &Words, now: u32) -> Result<Stand, RowFault>
+    pub fn over(alloc: Global, words: &Words, tick: u32) -> Result<Stand, RowFault>
         ensures { IfOk result (λ stand. IsMounted stand.kernel stand.words) }
     {
-        let mut words = at_rest(alloc, words)?;
+        let mut words = at_rest(alloc, words.image()?)?;
         let kernel = Kernel::mount(alloc, &mut words)?;
         let mut stand = Stand {
             alloc,
             words,
             kernel,
-            now,
+            tick,
         };
         stand.start(0, 0)?;
         stand.start(1, 5)?;
@@ -70,6 +70,7 @@ impl Stand {
     // Starts a thread, where it wasn't.
     fn start_thread(&mut self, thread: u16, process: u8) -> Result<(), RowFault>
         requires mounted { IsMounted self.old.kernel self.old.words }
+        requires thread { thread < 256 }
         requires small { process < 64 }
         requires process { Contains (map (λ p. p.0) self.old.kernel.callers.processes) process }
         ensures mounted { OnOk result (IsMounted self.new.kernel self.new.words) }
@@ -174,7 +175,7 @@ impl Stand {
         if !self.may_call(thread, call) {
             return Err(RowFault::NoThread);
         }
-        Ok(self.kernel.inner(&self.words, thread, self.now, call)?)
+        Ok(self.kernel.inner(&self.words, thread, self.tick, call)?)
     }
 
     fn call(&mut self, thread: u16, call: &Kcall) -> Result<KernAnswer, RowFault>
@@ -185,7 +186,7 @@ impl Stand {
         if !self.may_call(thread, call) {
             return Err(RowFault::NoThread);
         }
-        match self.kernel.call(&mut self.words, thread, self.now, call) {
+        match self.kernel.call(&mut self.words, thread, self.tick, call) {
             KernAnswer::NoMemory => Err(RowFault::NoMemory),
             answer => Ok(answer),
         }
