@@ -1,4 +1,4 @@
-//! Tests of the kernel's tables on images whose words are stored by hand, and nothing else.
+//! Tests of the kernel's tables and of its calls, over whole images, and nothing else.
 #![tactic(auto)]
 
 #[cfg(test)]

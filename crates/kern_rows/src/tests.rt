@@ -1,2 +1,5 @@
+mod calls;
 mod image;
+mod reader;
 mod roots;
+mod stand;

@@ -1,12 +1,15 @@
 // Images of 64 pages with words stored by hand. The journal begins in page 1, the owner table is page 4,
 // the coffer table begins in page 5, and the path buckets are in page 37.
-ghost use Rattle.std.specs.Prelude.{◌≡◌, length, IfOk, true};
+ghost use Rattle.std.specs.Prelude.{◌≡◌, [], length, IfOk, true};
+ghost use Rattle.zo_layout.specs.Layout.{committed_word};
+ghost use Rattle.pm_words.specs.Memory.{word_at, HasPages};
 ghost use Rattle.tr_types.specs.KernelRules.{IsSoundKernel};
 ghost use Rattle.tr_types.specs.Paths as paths;
 
+use kern_calls::MountFault;
 use kern_journal::new_image;
 use kern_view::{first_fault, is_path_text};
-use pm_words::{NoMemory, Words};
+use pm_words::{Image, NoMemory, Words};
 use std::alloc::{AllocError, Global};
 use thiserror::Error;
 use tr_types::Path;
@@ -53,6 +56,10 @@ pub enum RowFault {
     Unsound(u64),
     #[error("that is no path")]
     NoPath,
+    #[error("that is no line of a table")]
+    NoLine,
+    #[error("the thread was not started")]
+    NoThread,
     #[error("out of memory")]
     NoMemory,
 }
@@ -60,6 +67,15 @@ pub enum RowFault {
 impl From<AllocError> for RowFault {
     fn from(_: AllocError) -> RowFault {
         RowFault::NoMemory
+    }
+}
+
+impl From<MountFault> for RowFault {
+    fn from(fault: MountFault) -> RowFault {
+        match fault {
+            MountFault::BadKernel(place) => RowFault::Unsound(place),
+            MountFault::NoMemory => RowFault::NoMemory,
+        }
     }
 }
 
@@ -90,6 +106,14 @@ pub fn image_with(
         None => Ok(words),
         Some(place) => Err(RowFault::Unsound(place)),
     }
+}
+
+/// The words of an image, each durable.
+pub fn at_rest(alloc: Global, image: Image) -> Result<Words, NoMemory>
+    requires { HasPages (length image) }
+    ensures { IfOk result (λ words. (word_at words committed_word).older ≡ []) }
+{
+    Words::of_image(alloc, image)
 }
 
 /// The path of a text.
