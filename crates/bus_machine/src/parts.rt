@@ -19,13 +19,7 @@ use pm_words::{NoMemory, Words};
 use sqlite_items::Boxed;
 use std::alloc::{AllocError, Global};
 use tr_types::{Action, Answer, Cred, FaultKind, Kcall, KernAnswer};
-use zo_layout::committed_word;
-
-const WORD_BYTES: u64 = 8;
-
-const PAGE_BYTES: u64 = 4096;
-
-const PAGE_WORDS: u64 = 512;
+use zo_layout::{PAGE_BYTES, PAGE_WORDS, WORD_BYTES, committed_word};
 
 const THREADS: usize = 256;
 
