@@ -278,10 +278,19 @@ mod tests {
         Ok(made)
     }
 
-    fn line_of(alloc: Global, reply: Reply) -> Result<Vec<u8>, AllocError> {
+    fn text_of(alloc: Global, entry: &Entry) -> Result<Vec<u8>, AllocError> {
         let mut text = Vec::new(alloc);
-        append_brief_text(&mut text, &Entry::Reply { thread: 11, reply })?;
+        append_brief_text(&mut text, entry)?;
         Ok(text)
+    }
+
+    fn line_of(alloc: Global, reply: Reply) -> Result<Vec<u8>, AllocError> {
+        text_of(alloc, &Entry::Reply { thread: 11, reply })
+    }
+
+    fn is_line(alloc: Global, reply: Reply, line: &str) -> Result<bool, AllocError> {
+        let text = line_of(alloc, reply)?;
+        Ok(text.as_slice() == line.as_bytes())
     }
 
     #[test]
@@ -303,7 +312,7 @@ mod tests {
             (Reply::Quarantined, "t12 quarantined\n"),
             (Reply::NoKey, "t12 nokey\n"),
         ] {
-            assert_eq!(rt; line_of(rt.alloc(), reply)?.as_slice(), line.as_bytes());
+            assert!(rt; is_line(rt.alloc(), reply, line)?, "{line}");
         }
         Ok(())
     }
@@ -337,7 +346,7 @@ mod tests {
             (Reply::Again { times: 8 }, "t12 again 8\n"),
             (Reply::Damaged { addr: 162912 }, "t12 damaged 162912\n"),
         ] {
-            assert_eq!(rt; line_of(rt.alloc(), reply)?.as_slice(), line.as_bytes());
+            assert!(rt; is_line(rt.alloc(), reply, line)?, "{line}");
         }
         Ok(())
     }
@@ -345,10 +354,9 @@ mod tests {
     #[test]
     fn replies_with_bytes(rt: HostRuntime) -> Result<(), Fail> {
         let data = Bytes::from_slice(rt.alloc(), &[0, 9, 10, 255])?;
-        let line = line_of(rt.alloc(), Reply::Data(data))?;
-        assert_eq!(rt; line.as_slice(), "t12 data 00090aff\n".as_bytes());
-        let line = line_of(rt.alloc(), Reply::Data(Bytes::new(rt.alloc())))?;
-        assert_eq!(rt; line.as_slice(), "t12 data -\n".as_bytes());
+        assert!(rt; is_line(rt.alloc(), Reply::Data(data), "t12 data 00090aff\n")?);
+        let none = Reply::Data(Bytes::new(rt.alloc()));
+        assert!(rt; is_line(rt.alloc(), none, "t12 data -\n")?);
         Ok(())
     }
 
@@ -369,15 +377,18 @@ mod tests {
     }
 
     fn stray_line_of(alloc: Global, answer: Answer) -> Result<Vec<u8>, AllocError> {
-        let mut text = Vec::new(alloc);
         let stray = Entry::Stray {
             thread: 11,
             addr: 159744,
             word: 7,
             answer,
         };
-        append_brief_text(&mut text, &stray)?;
-        Ok(text)
+        text_of(alloc, &stray)
+    }
+
+    fn is_stray_line(alloc: Global, answer: Answer, line: &str) -> Result<bool, AllocError> {
+        let text = stray_line_of(alloc, answer)?;
+        Ok(text.as_slice() == line.as_bytes())
     }
 
     #[test]
@@ -395,10 +406,7 @@ mod tests {
             (Answer::Fault(FaultKind::KeyDenied), "t12 stray fault key\n"),
             (Answer::Word(7), ""),
         ] {
-            assert_eq!(rt;
-                stray_line_of(rt.alloc(), answer)?.as_slice(),
-                line.as_bytes()
-            );
+            assert!(rt; is_stray_line(rt.alloc(), answer, line)?, "{line}");
         }
         Ok(())
     }
