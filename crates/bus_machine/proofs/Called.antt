@@ -1,5 +1,5 @@
 -- What a kernel call of a thread leaves.
-use Rattle.std.proofs.Common.{◌≡◌, ℕ, List, refl, sym, subst, inr}
+use Rattle.std.proofs.Common.{◌≡◌, ℕ, List, refl, inr}
 use Rattle.std.specs.Prelude.{IsSome}
 use Rattle.pm_words.specs.Word.{Word}
 use Rattle.tr_types.specs.Rights.{process_of}

@@ -20,18 +20,17 @@ use Rattle.tr_types.specs.JournalLaws.{IsDurable}
 use Rattle.tr_types.specs.KernelRules.{IsSoundKernel}
 use Rattle.tr_types.specs.KernelCalls.{Callers}
 use Rattle.tr_types.specs.Commits.{present_at}
-use Rattle.tr_types.specs.Machine.{Bus, bus_over, closed_pkrus}
+use Rattle.tr_types.specs.Machine.{closed_pkrus}
 use Rattle.tr_types.specs.Rights.{closed_pkru, process_of}
 use Rattle.tr_types.specs.declared.kernel_call.Holder.{Holder}
 use Rattle.tr_types.specs.declared.permission.Cred.{Cred}
-use Rattle.tr_types.proofs.Registers.{closed_pkrus_are}
-use Rattle.tr_types.proofs.WordSteps.{come, length_run, run_at, run_spared, flushed_durable, Spares}
+use Rattle.tr_types.proofs.WordSteps.{length_run, run_at, run_spared, flushed_durable, Spares}
 use Rattle.kern_view.proofs.SoundLemmas.{sound_after}
 use Rattle.kern_pages.specs.Owners.{owners_of}
 use Rattle.kern_calls.specs.Calls.{KernelView, IsMounted}
 use Rattle.kern_calls.specs.declared.mount.MountFault.{MountFault}
 use Rattle.kern_calls.specs.declared.mount.MountFault.TheVariants.{BadKernel, NoMemory}
-use Rattle.bus_machine.specs.Opening.{settled_words, opened_words, bus_opened, OpensAsIs}
+use Rattle.bus_machine.specs.Opening.{settled_words, OpensAsIs}
 use Rattle.bus_machine.specs.Ties.{AreSmall}
 use Rattle.tr_types.proofs.RootLemmas.{idle_word}
 use Rattle.bus_machine.proofs.Stores.{same_owners}

@@ -4,12 +4,12 @@ use Rattle.std.specs.Prelude.{not, ◌&&◌, ◌||◌}
 use Rattle.std.specs.List.{range_with_len}
 use Rattle.std.proofs.lemmas.Bool.{cases_lt, lt-ltb, eqb-true, not-false}
 use Rattle.pm_words.specs.Word.{Word}
-use Rattle.pm_words.specs.Memory.{store_at, HasPages}
+use Rattle.pm_words.specs.Memory.{store_at}
 use Rattle.pm_words.proofs.WordLemmas.{length_store_at}
 use Rattle.zo_layout.specs.Layout.{kernel_pages, owner_word}
 use Rattle.tr_types.specs.KernelView.{pages_of}
 use Rattle.tr_types.specs.Kernel.{kernel_owner}
-use Rattle.tr_types.specs.KernelTables.{is_id, stands_in, owner_fails}
+use Rattle.tr_types.specs.KernelTables.{is_id, stands_in}
 use Rattle.tr_types.specs.Journal.{committed_count, kernel_word}
 use Rattle.tr_types.specs.Commits.{IsWorking, IsOuter, StoreLaw, present_at}
 use Rattle.tr_types.specs.Machine.{Bus, store_refusal}

@@ -11,6 +11,10 @@ fn bad_place(alloc: Global, text: &[u8]) -> Option<(u32, u32)> {
     }
 }
 
+fn is_bad_at(alloc: Global, text: &str, line: u32, column: u32) -> bool {
+    bad_place(alloc, text.as_bytes()) == Some((line, column))
+}
+
 #[test]
 fn first_bad_word_is_named(rt: HostRuntime) {
     for (text, line, column) in [
@@ -55,8 +59,7 @@ fn first_bad_word_is_named(rt: HostRuntime) {
         ("mkfs 64\nprocess p1 0 0\nthread t2\n", 3, 10),
         ("mkfs 64\nprocess p1 0 0\n\n# a note\ndo t1 stat /\n", 5, 4),
     ] {
-        let place = bad_place(rt.alloc(), text.as_bytes());
-        assert_eq!(rt; place, Some((line, column)), "{text:?}");
+        assert!(rt; is_bad_at(rt.alloc(), text, line, column), "{text:?}");
     }
 }
 
@@ -64,6 +67,17 @@ fn first_bad_word_is_named(rt: HostRuntime) {
 fn bad_column(alloc: Global, above: &str, last: &str) -> Result<Option<u32>, AllocError> {
     let text = format!(in alloc; "mkfs 64\nprocess p1 0 0\nthread t1 p1\n{above}{last}\n")?;
     Ok(bad_place(alloc, text.as_bytes()).map(|(_, column)| column))
+}
+
+/// Whether the line is bad at this column below these lines, or good where there is none.
+fn is_column(
+    alloc: Global,
+    above: &str,
+    last: &str,
+    column: Option<u32>,
+) -> Result<bool, AllocError> {
+    let found = bad_column(alloc, above, last)?;
+    Ok(found == column)
 }
 
 #[test]
@@ -97,7 +111,7 @@ fn bad_words_of_declarations_and_commands(rt: HostRuntime) -> Result<(), AllocEr
         ("do t1 create /f 607", 17),
         ("do t1 create /f 666 1", 21),
     ] {
-        assert_eq!(rt; bad_column(rt.alloc(), "", last)?, Some(column), "{last:?}");
+        assert!(rt; is_column(rt.alloc(), "", last, Some(column))?, "{last:?}");
     }
     Ok(())
 }
@@ -121,7 +135,7 @@ fn bad_words_of_calls_and_strays(rt: HostRuntime) -> Result<(), AllocError> {
         ("stray t1 8 00", 12),
         ("stray t1 8 0 0", 14),
     ] {
-        assert_eq!(rt; bad_column(rt.alloc(), "", last)?, Some(column), "{last:?}");
+        assert!(rt; is_column(rt.alloc(), "", last, Some(column))?, "{last:?}");
     }
     Ok(())
 }
@@ -145,7 +159,7 @@ fn lines_that_are_not_built_are_bad_at_once(rt: HostRuntime) -> Result<(), Alloc
         "rstep 1",
         "coffers",
     ] {
-        assert_eq!(rt; bad_column(rt.alloc(), "", last)?, Some(1), "{last:?}");
+        assert!(rt; is_column(rt.alloc(), "", last, Some(1))?, "{last:?}");
     }
     Ok(())
 }
@@ -172,9 +186,8 @@ fn within_a_call_no_other_is_given(rt: HostRuntime) -> Result<(), AllocError> {
         ("call t1 stat /\nfinish t1\n", "stray t1 0 0", None),
         ("call t1 stat /\nfinish t1\n", "do t1 stat /", None),
     ] {
-        assert_eq!(rt;
-            bad_column(rt.alloc(), above, last)?,
-            column,
+        assert!(rt;
+            is_column(rt.alloc(), above, last, column)?,
             "{above:?} {last:?}"
         );
     }
@@ -262,6 +275,22 @@ fn lines_of_a_call_and_a_stray_store(rt: HostRuntime) -> Result<(), ScriptFault>
     Ok(())
 }
 
+fn is_filled_good(alloc: Global, first: &str, length: usize) -> Result<bool, AllocError> {
+    let text = filled(alloc, first, length)?;
+    Ok(read_script(alloc, &text).is_ok())
+}
+
+/// Whether a text of this first line, filled up to so many bytes, is bad at this place.
+fn is_filled_bad_at(
+    alloc: Global,
+    first: &str,
+    length: usize,
+    place: Option<(u32, u32)>,
+) -> Result<bool, AllocError> {
+    let text = filled(alloc, first, length)?;
+    Ok(bad_place(alloc, &text) == place)
+}
+
 /// A text of a first line, and a second that fills it up to so many bytes.
 fn filled(alloc: Global, first: &str, length: usize) -> Result<Vec<u8>, AllocError> {
     let mut text = Vec::from_slice(alloc, first.as_bytes())?;
@@ -274,12 +303,11 @@ fn filled(alloc: Global, first: &str, length: usize) -> Result<Vec<u8>, AllocErr
 
 #[test]
 fn first_byte_past_the_limit_is_bad(rt: HostRuntime) -> Result<(), AllocError> {
-    let whole = filled(rt.alloc(), "mkfs 64\n", 4_194_304)?;
-    assert!(rt; read_script(rt.alloc(), &whole).is_ok());
-    let longer = filled(rt.alloc(), "mkfs 64\n", 4_194_305)?;
-    assert_eq!(rt; bad_place(rt.alloc(), &longer), Some((2, 4_194_297)));
-    let earlier = filled(rt.alloc(), "mkfs 63\n", 4_194_305)?;
-    assert_eq!(rt; bad_place(rt.alloc(), &earlier), Some((1, 6)));
+    assert!(rt; is_filled_good(rt.alloc(), "mkfs 64\n", 4_194_304)?);
+    let longer = Some((2, 4_194_297));
+    assert!(rt; is_filled_bad_at(rt.alloc(), "mkfs 64\n", 4_194_305, longer)?);
+    let earlier = Some((1, 6));
+    assert!(rt; is_filled_bad_at(rt.alloc(), "mkfs 63\n", 4_194_305, earlier)?);
     Ok(())
 }
 

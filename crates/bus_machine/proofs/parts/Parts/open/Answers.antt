@@ -1,8 +1,7 @@
-use Rattle.std.proofs.Common.{◌≡◌, ℕ, List, Err, sym, ap, subst, ◌∙◌, replicate}
+use Rattle.std.proofs.Common.{ℕ, List, Err, sym, ap, subst, ◌∙◌, replicate}
 use Rattle.std.proofs.lemmas.Result.{err_from_is_err_and}
 use Rattle.pm_words.specs.Word.{Word}
 use Rattle.tr_types.specs.KernelRules.{IsFirstFault}
-use Rattle.tr_types.specs.KernelCalls.{Callers}
 use Rattle.tr_types.proofs.Registers.{closed_pkrus_are}
 use Rattle.kern_calls.specs.Calls.{IsMounted}
 use Rattle.kern_calls.specs.declared.mount.MountFault.{MountFault}
