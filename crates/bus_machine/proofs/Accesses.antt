@@ -5,11 +5,11 @@ use Rattle.std.proofs.lemmas.Bool.{and_parts, eqb-true, ltb-true}
 use Rattle.std.proofs.lemmas.List.FromFn.{get_or-map-range_with_len}
 use Rattle.pm_words.specs.Word.{Word}
 use Rattle.pm_words.specs.Memory.{IsAddress, HasPages}
-use Rattle.tr_types.specs.KernelView.{pages_of}
-use Rattle.tr_types.specs.Kernel.{kernel_owner}
+use Rattle.kern_model.specs.KernelView.{pages_of}
+use Rattle.kern_model.specs.Kernel.{kernel_owner}
 use Rattle.tr_types.specs.declared.action.FaultKind.TheVariants.{NotMapped}
-use Rattle.tr_types.specs.Rights.{is_held, load_fault, store_fault}
-use Rattle.tr_types.specs.Machine.{Bus, is_word, load_refusal, store_refusal, pkru_of}
+use Rattle.kern_model.specs.Rights.{is_held, load_fault, store_fault}
+use Rattle.bus_model.specs.Machine.{Bus, is_word, load_refusal, store_refusal, pkru_of}
 use Rattle.kern_calls.specs.Calls.{KernelView, IsMounted}
 use Rattle.bus_machine.proofs.Holding.{stored_is_held}
 

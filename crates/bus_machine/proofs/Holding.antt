@@ -3,9 +3,9 @@ use Rattle.std.proofs.Common.{◌≡◌, ℕ, List, [], ◌∷◌, Bool, true, f
 use Rattle.std.specs.Prelude.{All}
 use Rattle.std.proofs.lemmas.Bool.{or_parts, or_cases, and_left, eqb-true}
 use Rattle.std.proofs.lemmas.List.Elements.{All-head, All-tail}
-use Rattle.tr_types.specs.KernelTables.{is_id}
+use Rattle.kern_model.specs.KernelTables.{is_id}
 use Rattle.tr_types.specs.declared.kernel_call.Holder.{Holder}
-use Rattle.tr_types.specs.Rights.{key_in, is_writable, are_together, is_held, store_fault, store_fault_by}
+use Rattle.kern_model.specs.Rights.{key_in, is_writable, are_together, is_held, store_fault, store_fault_by}
 
 -- Where nobody holds a coffer, no process has a key for it.
 no_key : (threads : List (ℕ × ℕ)) (holders : List Holder) (thread id : ℕ) → is_held id holders ≡ false → key_in threads holders thread id ≡ None

@@ -1,46 +1,41 @@
--- What the machine answers, of what its parts did.
-use Rattle.std.proofs.Common.{◌≡◌, ℕ, Bool, true, false, sym, subst, ◌∙◌, Result, Ok, Err}
+-- What the machine answers, of what its bus did.
+use Rattle.std.proofs.Common.{◌≡◌, ℕ, true, false, sym, subst, ◌∙◌, Result, Ok, Err}
 use Rattle.std.specs.Prelude.{IfOk, OnOk, MatchResult}
 use Rattle.std.specs.declared.alloc.AllocError.{AllocError}
 use Rattle.tr_types.specs.declared.action.Action.{Action}
 use Rattle.tr_types.specs.declared.action.Answer.{Answer}
-use Rattle.tr_types.specs.Machine.{IsProcess, IsThread, with_process, with_thread}
+use Rattle.bus_model.specs.Machine.{ProcessWasStarted, ThreadWasStarted, with_process, with_thread}
 use Rattle.tr_types.specs.declared.permission.Cred.{Cred}
-use Rattle.bus_machine.specs.Calls.{ActsAs, StartsProcess, StartsThread}
-use Rattle.bus_machine.specs.Parts.{bus_of, DoesAct}
+use Rattle.bus_machine.specs.View.{MachineView}
+use Rattle.bus_machine.specs.Calls.{with_bus, ActsAs, StartsProcess, StartsThread}
+use Rattle.bus_machine.specs.Steps.{Does}
 use Rattle.bus_machine.specs.declared.fault.BusFault.{BusFault}
 use Rattle.bus_machine.specs.declared.fault.BusFault.TheVariants.{NoMemory}
-use Rattle.bus_machine.specs.declared.parts.Parts.{Parts}
 
-pub noted_act : (before after : Parts) (was failed : Bool) (thread now : ℕ) (action : Action) (done : Result Answer AllocError) (result : Result Answer BusFault)
-    → was ≡ false → IsThread (bus_of before) thread → IfOk done (DoesAct before after thread now action)
-    → MatchResult done (λ x. (result ≡ Ok x) × (failed ≡ was)) (λ _. (result ≡ Err NoMemory) × (failed ≡ true))
-    → ActsAs (record { bus = bus_of before; failed = was }) (record { bus = bus_of after; failed = failed }) thread now action result
-noted_act before after was failed thread now action (Ok answer) result works started step noted =
-    subst (λ (r : Result Answer BusFault). ActsAs (record { bus = bus_of before; failed = was }) (record { bus = bus_of after; failed = failed }) thread now action r) (sym noted.0)
-    (works, started, step.answers, λ i. record { bus = step.after i; failed = (noted.1 ∙ works) i })
-noted_act before after was failed thread now action (Err e) result works started step noted =
-    subst (λ (r : Result Answer BusFault). ActsAs (record { bus = bus_of before; failed = was }) (record { bus = bus_of after; failed = failed }) thread now action r) (sym noted.0)
-    (noted.1, λ _. started)
+-- the machine after a step of its bus, which it notes where memory ran out
+abbrev pub Notes : {T : Type 0} → MachineView → MachineView → Result T AllocError → Result T BusFault → Type 0
+Notes mid after done result = MatchResult done (λ x. (result ≡ Ok x) × (after ≡ mid)) (λ _. (result ≡ Err NoMemory) × (after.failed ≡ true))
 
-pub noted_thread : (before after : Parts) (was failed : Bool) (thread process : ℕ) (done : Result Unit AllocError) (result : Result Unit BusFault)
-    → was ≡ false → IsProcess (bus_of before) process → (IsThread (bus_of before) thread → ⊥) → OnOk done (bus_of after ≡ with_thread thread process (bus_of before))
-    → MatchResult done (λ x. (result ≡ Ok x) × (failed ≡ was)) (λ _. (result ≡ Err NoMemory) × (failed ≡ true))
-    → StartsThread (record { bus = bus_of before; failed = was }) (record { bus = bus_of after; failed = failed }) thread process result
-noted_thread before after was failed thread process (Ok x) result works among fresh step noted =
-    subst (λ (r : Result Unit BusFault). StartsThread (record { bus = bus_of before; failed = was }) (record { bus = bus_of after; failed = failed }) thread process r) (sym noted.0)
-    (works, among, fresh, λ i. record { bus = step i; failed = (noted.1 ∙ works) i })
-noted_thread before after was failed thread process (Err e) result works among fresh step noted =
-    subst (λ (r : Result Unit BusFault). StartsThread (record { bus = bus_of before; failed = was }) (record { bus = bus_of after; failed = failed }) thread process r) (sym noted.0)
-    (noted.1, λ _. (among, fresh))
+module _ (old mid after : MachineView) (works : old.failed ≡ false) where
+  pub noted_act : (thread now : ℕ) (action : Action) (done : Result Answer AllocError) (result : Result Answer BusFault)
+      → ThreadWasStarted old.bus thread → IfOk done (Does old mid thread now action) → Notes mid after done result → ActsAs old after thread now action result
+  noted_act thread now action (Ok answer) result started step notes =
+      subst (λ (r : Result Answer BusFault). ActsAs old after thread now action r) (sym notes.0) (works, started, step.answers, notes.1 ∙ step.after)
+  noted_act thread now action (Err e) result started step notes =
+      subst (λ (r : Result Answer BusFault). ActsAs old after thread now action r) (sym notes.0) (notes.1, λ _. started)
 
-pub noted_process : (before after : Parts) (was failed : Bool) (process : ℕ) (cred : Cred) (done : Result Unit AllocError) (result : Result Unit BusFault)
-    → was ≡ false → (IsProcess (bus_of before) process → ⊥) → OnOk done (bus_of after ≡ with_process process cred (bus_of before))
-    → MatchResult done (λ x. (result ≡ Ok x) × (failed ≡ was)) (λ _. (result ≡ Err NoMemory) × (failed ≡ true))
-    → StartsProcess (record { bus = bus_of before; failed = was }) (record { bus = bus_of after; failed = failed }) process cred result
-noted_process before after was failed process cred (Ok x) result works fresh step noted =
-    subst (λ (r : Result Unit BusFault). StartsProcess (record { bus = bus_of before; failed = was }) (record { bus = bus_of after; failed = failed }) process cred r) (sym noted.0)
-    (works, fresh, λ i. record { bus = step i; failed = (noted.1 ∙ works) i })
-noted_process before after was failed process cred (Err e) result works fresh step noted =
-    subst (λ (r : Result Unit BusFault). StartsProcess (record { bus = bus_of before; failed = was }) (record { bus = bus_of after; failed = failed }) process cred r) (sym noted.0)
-    (noted.1, λ _. fresh)
+  pub noted_thread : (thread process : ℕ) (done : Result Unit AllocError) (result : Result Unit BusFault)
+      → ProcessWasStarted old.bus process → (ThreadWasStarted old.bus thread → ⊥) → OnOk done (mid ≡ with_bus (with_thread thread process old.bus)) → Notes mid after done result
+      → StartsThread old after thread process result
+  noted_thread thread process (Ok x) result among fresh step notes =
+      subst (λ (r : Result Unit BusFault). StartsThread old after thread process r) (sym notes.0) (works, among, fresh, notes.1 ∙ step)
+  noted_thread thread process (Err e) result among fresh step notes =
+      subst (λ (r : Result Unit BusFault). StartsThread old after thread process r) (sym notes.0) (notes.1, λ _. (among, fresh))
+
+  pub noted_process : (process : ℕ) (cred : Cred) (done : Result Unit AllocError) (result : Result Unit BusFault)
+      → (ProcessWasStarted old.bus process → ⊥) → OnOk done (mid ≡ with_bus (with_process process cred old.bus)) → Notes mid after done result
+      → StartsProcess old after process cred result
+  noted_process process cred (Ok x) result fresh step notes =
+      subst (λ (r : Result Unit BusFault). StartsProcess old after process cred r) (sym notes.0) (works, fresh, notes.1 ∙ step)
+  noted_process process cred (Err e) result fresh step notes =
+      subst (λ (r : Result Unit BusFault). StartsProcess old after process cred r) (sym notes.0) (notes.1, λ _. fresh)

@@ -1,6 +1,6 @@
 -- The machine as it opens.
 use Rattle.std.proofs.Common.{◌≡◌, ◌⊎◌, inl, inr, ℕ, zero, suc, ◌+◌, ◌/◌, ◌<◌, ◌≤◌, Bool, true, false, if◌then◌else◌, List, [], ◌∷◌, length, map, replicate, refl, sym, ap, subst, ◌∙◌, arith, nat_eq, Result, Ok, Err}
-use Rattle.std.specs.Prelude.{All, Contains, is_some}
+use Rattle.std.specs.Prelude.{All, Contains}
 use Rattle.std.specs.List.{range_with_len, enumerate_from}
 use Rattle.std.specs.Result.{IsErrOf}
 use Rattle.std.proofs.lemmas.Bool.{cases_lt}
@@ -10,29 +10,29 @@ use Rattle.pm_words.specs.Word.{Word, settled, flushed}
 use Rattle.pm_words.specs.Marks.{with_first, trimmed, written, put_mark, less_marks}
 use Rattle.pm_words.specs.Memory.{word_at, all_durable, flush_at, fence_by, HasPages}
 use Rattle.zo_layout.specs.Layout.{committed_word}
-use Rattle.tr_types.specs.Inner.{kernel_thread, made_all, finish_any}
-use Rattle.tr_types.specs.declared.inner.Inner.{Inner}
-use Rattle.tr_types.specs.declared.inner.Inner.TheVariants.{Flush, Fence}
-use Rattle.tr_types.specs.KernelView.{pages_of}
-use Rattle.tr_types.specs.KernelTables.{is_id, stands_in}
-use Rattle.tr_types.specs.Journal.{committed, committed_count, kernel_word, pair_at}
-use Rattle.tr_types.specs.JournalLaws.{IsDurable}
-use Rattle.tr_types.specs.KernelRules.{IsSoundKernel}
-use Rattle.tr_types.specs.KernelCalls.{Callers}
-use Rattle.tr_types.specs.Commits.{present_at}
-use Rattle.tr_types.specs.Machine.{closed_pkrus}
-use Rattle.tr_types.specs.Rights.{closed_pkru, process_of}
+use Rattle.kern_model.specs.Inner.{kernel_thread, made_all, finish_any}
+use Rattle.kern_model.specs.declared.inner.Inner.{Inner}
+use Rattle.kern_model.specs.declared.inner.Inner.TheVariants.{Flush, Fence}
+use Rattle.kern_model.specs.KernelView.{pages_of}
+use Rattle.kern_model.specs.KernelTables.{is_id, stands_in}
+use Rattle.kern_model.specs.Journal.{committed, committed_count, kernel_word, pair_at}
+use Rattle.kern_model.specs.JournalLaws.{IsDurable}
+use Rattle.kern_model.specs.KernelRules.{IsSoundKernel}
+use Rattle.kern_model.specs.KernelCalls.{Callers}
+use Rattle.kern_model.specs.Commits.{present_at}
+use Rattle.bus_model.specs.Machine.{closed_pkrus}
+use Rattle.kern_model.specs.Rights.{closed_pkru}
 use Rattle.tr_types.specs.declared.kernel_call.Holder.{Holder}
 use Rattle.tr_types.specs.declared.permission.Cred.{Cred}
-use Rattle.tr_types.proofs.WordSteps.{length_run, run_at, run_spared, flushed_durable, Spares}
+use Rattle.kern_model.proofs.WordSteps.{length_run, run_at, run_spared, flushed_durable, Spares}
 use Rattle.kern_view.proofs.SoundLemmas.{sound_after}
 use Rattle.kern_pages.specs.Owners.{owners_of}
 use Rattle.kern_calls.specs.Calls.{KernelView, IsMounted}
 use Rattle.kern_calls.specs.declared.mount.MountFault.{MountFault}
 use Rattle.kern_calls.specs.declared.mount.MountFault.TheVariants.{BadKernel, NoMemory}
 use Rattle.bus_machine.specs.Opening.{settled_words, OpensAsIs}
-use Rattle.bus_machine.specs.Ties.{AreSmall}
-use Rattle.tr_types.proofs.RootLemmas.{idle_word}
+use Rattle.bus_machine.specs.Ties.{AreTied}
+use Rattle.kern_model.proofs.Idle.{idle_word}
 use Rattle.bus_machine.proofs.Stores.{same_owners}
 
 -- What makes word 0 of the journal durable stores nothing.
@@ -89,11 +89,14 @@ mounted_settled kernel words size sound idle told unheld =
     }
 
 -- nobody was started
-pub small_opened : (callers : Callers) (pkrus : List ℕ) → callers ≡ record { processes = []; threads = [] } → pkrus ≡ replicate 256 closed_pkru → AreSmall callers pkrus
-small_opened callers pkrus none closed = record {
-  processes_small = λ p among. absurd (none_among p (subst (λ (c : Callers). Contains (map (λ (q : ℕ × Cred). q.0) c.processes) p) none among));
-  threads_small = λ t some. absurd (let no = subst (λ (c : Callers). is_some (process_of c.threads t) ≡ true) none some in cc);
-  registers = ap (λ (l : List ℕ). length l) closed ∙ length-replicate 256 closed_pkru;
+pub tied_opened : (words : List Word) (kernel : KernelView) (pkrus : List ℕ) → IsMounted kernel words → kernel.callers ≡ record { processes = []; threads = [] } → pkrus ≡ replicate 256 closed_pkru → AreTied words kernel pkrus
+tied_opened words kernel pkrus mounted none closed = record {
+  mounted = mounted;
+  registers = record {
+    count = ap (λ (l : List ℕ). length l) closed ∙ length-replicate 256 closed_pkru;
+    small = λ t among. absurd (none_among t (subst (λ (c : Callers). Contains (map (λ (q : ℕ × ℕ). q.0) c.threads) t) none among));
+  };
+  small = λ p among. absurd (none_among p (subst (λ (c : Callers). Contains (map (λ (q : ℕ × Cred). q.0) c.processes) p) none among));
 }
   where
     none_among : (n : ℕ) → Contains [] n → ⊥

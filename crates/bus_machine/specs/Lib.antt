@@ -4,7 +4,7 @@ pub mod View
 pub mod Opening
 -- what each call answers, and what it leaves
 pub mod Calls
--- what ties the registers to the threads
+-- what a step of a thread does on a bus
+pub mod Steps
+-- what ties the parts of a bus together
 pub mod Ties
--- the parts of a machine as a bus
-pub mod Parts

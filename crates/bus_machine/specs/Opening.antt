@@ -3,9 +3,9 @@ use Rattle.std.specs.Prelude.{◌≡◌, ℕ, List, []}
 use Rattle.pm_words.specs.Word.{Word}
 use Rattle.pm_words.specs.Memory.{flush_at, fence_by, all_durable}
 use Rattle.zo_layout.specs.Layout.{committed_word}
-use Rattle.tr_types.specs.Inner.{kernel_thread, made_all, redo_events, committed_count}
-use Rattle.tr_types.specs.KernelRules.{IsSoundKernel}
-use Rattle.tr_types.specs.Machine.{Bus, bus_over, closed_pkrus}
+use Rattle.kern_model.specs.Inner.{kernel_thread, made_all, redo_events, committed_count}
+use Rattle.kern_model.specs.KernelRules.{IsSoundKernel}
+use Rattle.bus_model.specs.Machine.{Bus, bus_over, closed_pkrus}
 
 -- the memory after the kernel has made word 0 of the journal durable
 abbrev pub settled_words : List Word → List Word

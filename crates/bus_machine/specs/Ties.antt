@@ -1,10 +1,21 @@
--- What ties the registers of a machine to the threads that were started.
-use Rattle.std.specs.Prelude.{◌≡◌, ℕ, ◌<◌, List, length, map, Contains, IsSome}
-use Rattle.tr_types.specs.Rights.{process_of}
-use Rattle.tr_types.specs.KernelCalls.{Callers}
+-- What ties the parts of a bus together.
+use Rattle.std.specs.Prelude.{ℕ, ◌<◌, List}
+use Rattle.pm_words.specs.Word.{Word}
+use Rattle.bus_model.specs.Machine.{Bus, ProcessWasStarted, HasRegisters}
+use Rattle.kern_calls.specs.Calls.{KernelView, IsMounted}
 
--- Numbers that were started are small enough to be started, and each thread has a register.
-pub record AreSmall (callers : Callers) (pkrus : List ℕ) : Type 0 where
-  pub processes_small : (process : ℕ) → Contains (map (λ p. p.0) callers.processes) process → process < 64
-  pub threads_small : (thread : ℕ) → IsSome (process_of callers.threads thread) → thread < 256
-  pub registers : length pkrus ≡ 256
+-- a memory, the kernel over it and the registers of the threads, as a bus
+abbrev pub bus_of : List Word → KernelView → List ℕ → Bus
+bus_of words kernel pkrus = record {
+  words = words;
+  processes = kernel.callers.processes;
+  threads = kernel.callers.threads;
+  holders = kernel.holders;
+  pkrus = pkrus;
+}
+
+-- The kernel stands over the memory, each thread has a register, and the numbers of processes are small enough to be started.
+pub record AreTied (words : List Word) (kernel : KernelView) (pkrus : List ℕ) : Type 0 where
+  pub mounted : IsMounted kernel words
+  pub registers : HasRegisters (bus_of words kernel pkrus)
+  pub small : (process : ℕ) → ProcessWasStarted (bus_of words kernel pkrus) process → process < 64

@@ -1,6 +1,6 @@
 -- A machine as its callers see it.
 use Rattle.std.specs.Prelude.{Bool}
-use Rattle.tr_types.specs.Machine.{Bus}
+use Rattle.bus_model.specs.Machine.{Bus}
 
 pub record MachineView : Type 0 where
   pub bus : Bus

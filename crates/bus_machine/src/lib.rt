@@ -4,9 +4,9 @@
 //! by the thread's own register PKRU; the kernel's calls change coffers, and who holds them.
 #![tactic(auto)]
 
+mod bus;
 mod fault;
 mod machine;
-mod parts;
 
 pub use fault::BusFault;
 pub use kern_calls::MountFault;

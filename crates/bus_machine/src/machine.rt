@@ -1,17 +1,17 @@
 // The machine as its callers have it.
-ghost use Rattle.std.specs.Prelude.{◌≡◌, ℕ, ◌<◌, ◌⊎◌, IfOk, OnOk, MatchResult, Ok, Err, true, false};
+ghost use Rattle.std.specs.Prelude.{◌≡◌, ◌↔◌, ℕ, ◌<◌, ◌⊎◌, IfOk, IsTrue, OnOk, MatchResult, Ok, Err, true, false};
 ghost use Rattle.std.specs.Result.{IsErrOf};
-ghost use Rattle.tr_types.specs.KernelRules.{IsFirstFault, IsSoundKernel};
-ghost use Rattle.tr_types.specs.Machine.{IsBuilt};
+ghost use Rattle.kern_model.specs.KernelRules.{IsFirstFault, IsSoundKernel};
+ghost use Rattle.bus_model.specs.Machine.{IsAction, ProcessWasStarted, ThreadWasStarted};
 ghost use Rattle.tr_types.specs.declared.action.Action.TheVariants.{Store};
 ghost use Rattle.bus_machine.specs.Opening.{bus_opened, OpensAsIs};
 ghost use Rattle.bus_machine.specs.Calls.{StartsProcess, StartsThread, ActsAs};
 
 use crate::BusFault;
-use crate::parts::Parts;
+use crate::bus::Bus;
 use kern_calls::MountFault;
-use pm_words::Words;
-use std::alloc::{AllocError, Global};
+use pm_words::{NoMemory, Words};
+use std::alloc::Global;
 use std::marker::Model;
 use tr_types::{Action, Answer, Cred};
 
@@ -21,21 +21,15 @@ use tr_types::{Action, Answer, Cred};
 /// has failed: each later call answers `NoMemory`.
 #[derive(Drop)]
 pub struct Machine {
-    parts: Parts,
-    failed: bool,
+    bus: Bus,
 }
 
 impl Model for Machine {
-    ghost use Rattle.std.specs.Prelude.{◌≡◌, false};
     ghost use Rattle.bus_machine.specs.View.{MachineView};
 
     ghost Value = { MachineView };
 
-    ghost use Rattle.bus_machine.specs.Parts.{bus_of, AreTied};
-
-    ghost view = { λ m. record { bus = bus_of m.parts; failed = m.failed } };
-
-    ghost invariant = { λ m. m.failed ≡ false → AreTied m.parts };
+    ghost view = { λ m. m.bus };
 }
 
 impl Machine {
@@ -51,8 +45,7 @@ impl Machine {
         ensures refuses { (place : ℕ) → IsFirstFault words place → IsErrOf result (MountFault.BadKernel place) ⊎ IsErrOf result MountFault.NoMemory }
     {
         Ok(Machine {
-            parts: Parts::open(alloc, words)?,
-            failed: false,
+            bus: Bus::open(alloc, words)?,
         })
     }
 
@@ -60,7 +53,21 @@ impl Machine {
     pub fn words(&self) -> &Words
         ensures { result.now ≡ self.now.bus.words }
     {
-        &self.parts.words
+        self.bus.words()
+    }
+
+    /// Whether the process was started.
+    pub fn has_process(&self, process: u8) -> bool
+        ensures { IsTrue result ↔ ProcessWasStarted self.now.bus process }
+    {
+        self.bus.has_process(process)
+    }
+
+    /// Whether the thread was started.
+    pub fn has_thread(&self, thread: u16) -> bool
+        ensures { IsTrue result ↔ ThreadWasStarted self.now.bus thread }
+    {
+        self.bus.has_thread(thread)
     }
 
     /// Starts a process, which acts for a user. `Started` where it was started before.
@@ -68,14 +75,14 @@ impl Machine {
         requires { process < 64 }
         ensures { StartsProcess self.old self.new process cred result }
     {
-        if self.failed {
+        if self.bus.has_failed() {
             return Err(BusFault::NoMemory);
         }
-        if self.parts.has_process(process) {
+        if self.bus.has_process(process) {
             return Err(BusFault::Started);
         }
-        let done = self.parts.start_process(process, cred);
-        noted(&mut self.failed, done)
+        let done = self.bus.start_process(process, cred);
+        noted(&mut self.bus, done)
     }
 
     /// Starts a thread in a process, with its register PKRU closed to all coffers. `NoProcess` where
@@ -84,36 +91,39 @@ impl Machine {
         requires { thread < 256 }
         ensures { StartsThread self.old self.new thread process result }
     {
-        if self.failed {
+        if self.bus.has_failed() {
             return Err(BusFault::NoMemory);
         }
-        if !self.parts.has_process(process) {
+        if !self.bus.has_process(process) {
             return Err(BusFault::NoProcess);
         }
-        if self.parts.has_thread(thread) {
+        if self.bus.has_thread(thread) {
             return Err(BusFault::Started);
         }
-        let done = self.parts.start_thread(thread, process);
-        noted(&mut self.failed, done)
+        let done = self.bus.start_thread(thread, process);
+        noted(&mut self.bus, done)
     }
 
     /// Does a step of a thread at a tick, and answers it. Addresses are in bytes; one that is no multiple
     /// of 8 inside the memory is not mapped. `NoThread` where the thread wasn't started.
     ///
+    /// A flush needs the right to load, a compare-and-exchange that to store, also where it changes
+    /// nothing; it answers the word that it found. A fence needs no right.
+    ///
     /// A load, a store or a new PKRU costs the same whatever the machine holds; a kernel call costs what
     /// its row needs.
     pub fn act(&mut self, thread: u16, now: u32, action: &Action) -> Result<Answer, BusFault>
-        requires { IsBuilt action.now }
+        requires { IsAction action.now }
         ensures { ActsAs self.old self.new thread now action.now result }
     {
-        if self.failed {
+        if self.bus.has_failed() {
             return Err(BusFault::NoMemory);
         }
-        if !self.parts.has_thread(thread) {
+        if !self.bus.has_thread(thread) {
             return Err(BusFault::NoThread);
         }
-        let done = self.parts.act(thread, now, action);
-        noted(&mut self.failed, done)
+        let done = self.bus.act(thread, now, action);
+        noted(&mut self.bus, done)
     }
 
     /// A store that the thread's program didn't mean, under the thread's present rights. `NoThread`
@@ -126,13 +136,13 @@ impl Machine {
 }
 
 // Where memory ran out, the machine has failed.
-fn noted<T>(failed: &mut bool, done: Result<T, AllocError>) -> Result<T, BusFault>
-    ensures { MatchResult done (λ x. (result ≡ Ok x) × (failed.new ≡ failed.old)) (λ _. (result ≡ Err BusFault.NoMemory) × (failed.new ≡ true)) }
+fn noted<T>(bus: &mut Bus, done: Result<T, NoMemory>) -> Result<T, BusFault>
+    ensures { MatchResult done (λ x. (result ≡ Ok x) × (bus.new ≡ bus.old)) (λ _. (result ≡ Err BusFault.NoMemory) × (bus.new.failed ≡ true)) }
 {
     match done {
         Ok(x) => Ok(x),
         Err(_) => {
-            *failed = true;
+            bus.fail();
             Err(BusFault::NoMemory)
         }
     }

@@ -3,12 +3,12 @@ use Rattle.std.proofs.Common.{◌≡◌, ◌⊎◌, inl, inr, ℕ, List, [], ◌
 use Rattle.std.specs.Prelude.{is_some, OnOk, OnErr}
 use Rattle.std.specs.Result.{is_err}
 use Rattle.pm_words.specs.Word.{Word}
-use Rattle.tr_types.specs.Inner.{made_all, IsCut}
-use Rattle.tr_types.specs.Journal.{kernel_word}
-use Rattle.tr_types.specs.KernelRules.{IsSoundKernel}
-use Rattle.tr_types.specs.KernelCalls.{Callers, Row, row_of, row_of_maps, row_answer, answer_by, unless_refused, first_due, row_events, zero_events, stored_events, inner_of, find_row, is_same_mode}
-use Rattle.tr_types.specs.Commits.{IsWorking, IsCommitted, MayCommit, RowKeeps, CommitLaw}
-use Rattle.tr_types.specs.declared.inner.Inner.{Inner}
+use Rattle.kern_model.specs.Inner.{made_all, IsCut}
+use Rattle.kern_model.specs.Journal.{kernel_word}
+use Rattle.kern_model.specs.KernelRules.{IsSoundKernel}
+use Rattle.kern_model.specs.KernelCalls.{Callers, Row, row_of, row_of_maps, row_answer, answer_by, unless_refused, first_due, row_events, zero_events, stored_events, inner_of, find_row, is_same_mode}
+use Rattle.kern_model.specs.Commits.{IsWorking, IsCommitted, MayCommit, RowKeeps, CommitLaw}
+use Rattle.kern_model.specs.declared.inner.Inner.{Inner}
 use Rattle.tr_types.specs.declared.kernel_call.Holder.{Holder}
 use Rattle.tr_types.specs.declared.kernel_call.Kcall.{Kcall}
 use Rattle.tr_types.specs.declared.kernel_call.Kcall.TheVariants as call
@@ -17,7 +17,7 @@ use Rattle.tr_types.specs.declared.kernel_call.KernAnswer.TheVariants as answer
 use Rattle.kern_pages.specs.Owners.{owners_of, TellsOwners}
 use Rattle.kern_plans.specs.Plans.{Plan, Plans, IsPlanOf}
 use Rattle.kern_laws.specs.Rows.{KeepsTables}
-use Rattle.kern_calls.specs.Calls.{KernelView, IsMounted, IsDone, Answered}
+use Rattle.kern_calls.specs.Calls.{KernelView, IsMounted, IsDone, Answered, StaysSteady}
 use Rattle.kern_calls.specs.Steps.{IsChange, FollowsRow, KnowsUpTo, with_holders, with_owners, holders_left}
 use Rattle.kern_calls.proofs.MountLemmas.{whole_cut}
 use Rattle.kern_calls.proofs.MapLemmas.{said, follows}
@@ -109,6 +109,7 @@ module _ (old : KernelView) (words : List Word) (thread now : ℕ) (kcall : Kcal
     callers = refl;
     holders = sym (ap (λ (d : Option KernAnswer). cond (is_some d) old.holders row.holders) due);
     mounted = mounted;
+    steady = λ steady. steady;
   }
 
   -- a refusal of a plan
@@ -140,13 +141,14 @@ module _ (old : KernelView) (words : List Word) (thread now : ℕ) (kcall : Kcal
   all_made after = after ≡ made_all (row_events (row_of old.callers words old.holders thread now kcall)) words
 
   passed_done : (result : KernAnswer) (new : KernelView) (after : List Word) → IsWorking after row.holders → first_due row.refusals ≡ None → result ≡ row.answer → all_made after → new.callers ≡ old.callers
-      → new.holders ≡ row.holders → new.owners ≡ owners_of after → IsDone old words thread now kcall result new after
-  passed_done result new after works due is made callers holders owners = record {
+      → new.holders ≡ row.holders → new.owners ≡ owners_of after → StaysSteady words after → IsDone old words thread now kcall result new after
+  passed_done result new after works due is made callers holders owners steady = record {
     answers = is ∙ sym (ap (λ (d : Option KernAnswer). answer_by d row.answer) due);
     memory = made ∙ sym (ap (λ (d : Option KernAnswer). made_all (cond (is_some d) [] (row_events row)) words) due);
     callers = callers;
     holders = holders ∙ sym (ap (λ (d : Option KernAnswer). cond (is_some d) old.holders row.holders) due);
     mounted = record { working = subst (λ (hs : List Holder). IsWorking after hs) (sym holders) works; told = owners };
+    steady = steady;
   }
 
   -- an answer to a call that changes no word
@@ -162,7 +164,7 @@ module _ (old : KernelView) (words : List Word) (thread now : ℕ) (kcall : Kcal
       done None due is left =
           let now_is = left ∙ ap (λ (d : Option KernAnswer). with_holders (cond (is_some d) old.holders row.holders) old) due in
           passed_done result new words (works due) due (is ∙ ap (λ (d : Option KernAnswer). answer_by d row.answer) due) made (ap (λ (k : KernelView). k.callers) now_is) (ap (λ (k : KernelView). k.holders) now_is)
-          (ap (λ (k : KernelView). k.owners) now_is ∙ mounted.told)
+          (ap (λ (k : KernelView). k.owners) now_is ∙ mounted.told) (λ steady. steady)
       done (Some refusal) due is left =
           subst (λ (r : KernAnswer). IsDone old words thread now kcall r new words) (sym (is ∙ ap (λ (d : Option KernAnswer). answer_by d row.answer) due))
           (subst (λ (k : KernelView). IsDone old words thread now kcall refusal k words) (sym (left ∙ ap (λ (d : Option KernAnswer). with_holders (cond (is_some d) old.holders row.holders) old) due))
@@ -218,12 +220,13 @@ module _ (old : KernelView) (words : List Word) (thread now : ℕ) (kcall : Kcal
               subst (λ (ps : List (ℕ × ℕ)). KnowsUpTo after ps old.owners) (sym (same ∙ of.pairs))
               (knows_after words after old.holders row.holders row.granted row.pairs old.owners mounted.working (works of.due after made) (committed of.due after made) (keeps of.due).0.pages tells mounted.told)
 
-          pub answered_then : (result : KernAnswer) (followed new : KernelView) → IsChange kcall → result ≡ plan.answer → followed ≡ with_owners (owners_of after) old
+          pub answered_then : (first_due row.refusals ≡ None → StaysSteady words (made_all (row_events row) words)) → (result : KernAnswer) (followed new : KernelView) → IsChange kcall → result ≡ plan.answer → followed ≡ with_owners (owners_of after) old
               → new ≡ with_holders (holders_left kcall followed.holders) followed → Answered old words thread now kcall result new after
-          answered_then result followed new change is follow end =
+          answered_then steady result followed new change is follow end =
               answered old words thread now kcall result new after
               (passed_done result new after (works of.due after made) of.due (is ∙ of.answer) made
               (ap (λ (k : KernelView). k.callers) end ∙ ap (λ (k : KernelView). k.callers) follow)
               (ap (λ (k : KernelView). k.holders) end ∙ ap (λ (k : KernelView). holders_left kcall k.holders) follow ∙ sym (left_is old.callers words old.holders thread now kcall change))
-              (ap (λ (k : KernelView). k.owners) end ∙ ap (λ (k : KernelView). k.owners) follow))
+              (ap (λ (k : KernelView). k.owners) end ∙ ap (λ (k : KernelView). k.owners) follow)
+              (subst (λ (ws : List Word). StaysSteady words ws) (sym made) (steady of.due)))
               cut_then

@@ -7,15 +7,15 @@ use Rattle.std.proofs.lemmas.List.{drop_more, drop_all, ext_get_or, length-set, 
 use Rattle.std.proofs.lemmas.List.Elements.{All-contains}
 use Rattle.zo_layout.specs.Layout.{kernel_pages, owner_word}
 use Rattle.pm_words.specs.Word.{Word}
-use Rattle.tr_types.specs.KernelView.{pages_of}
-use Rattle.tr_types.specs.Journal.{IsHome, kernel_word}
-use Rattle.tr_types.specs.JournalLaws.{IsUnnamed}
-use Rattle.tr_types.specs.Kernel.{kernel_owner}
-use Rattle.tr_types.specs.KernelRules.{IsSoundKernel}
-use Rattle.tr_types.specs.Commits.{IsOuter, IsWorking, IsCommitted, present_at}
+use Rattle.kern_model.specs.KernelView.{pages_of}
+use Rattle.kern_model.specs.Journal.{IsHome, kernel_word}
+use Rattle.kern_model.specs.JournalLaws.{IsUnnamed}
+use Rattle.kern_model.specs.Kernel.{kernel_owner}
+use Rattle.kern_model.specs.KernelRules.{IsSoundKernel}
+use Rattle.kern_model.specs.Commits.{IsOuter, IsWorking, IsCommitted, present_at}
 use Rattle.tr_types.specs.declared.kernel_call.Holder.{Holder}
-use Rattle.tr_types.proofs.FinishLemmas.{idle_read}
-use Rattle.tr_types.proofs.LaidLemmas.{IsNamed as NamesWord, named_cases, laid_unnamed}
+use Rattle.kern_model.proofs.FinishLemmas.{idle_read}
+use Rattle.kern_model.proofs.LaidLemmas.{IsNamed as NamesWord, named_cases, laid_unnamed}
 use Rattle.kern_owner.proofs.SoundLemmas.{OwnerCase, owner_case}
 use Rattle.kern_owner.proofs.SoundLemmas.OwnerCase.{Kernels, Nobodys, Coffers}
 use Rattle.kern_pages.specs.Owners.{owners_of, TellsOwners}

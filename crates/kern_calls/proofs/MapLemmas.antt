@@ -6,15 +6,15 @@ use Rattle.std.proofs.lemmas.Bool.{cases_lt, or_parts, or_cases, and_parts, leb-
 use Rattle.std.proofs.lemmas.List.{drop_more}
 use Rattle.std.proofs.lemmas.List.Elements.{Contains-append_cases, Contains-append_right}
 use Rattle.pm_words.specs.Word.{Word}
-use Rattle.tr_types.specs.Rights.{is_row_of, with_row, without_row, key_for, those_against, IsLeastOf}
-use Rattle.tr_types.specs.KernelView.{pages_of}
-use Rattle.tr_types.specs.Journal.{kernel_word}
-use Rattle.tr_types.specs.Kernel.{coffers}
-use Rattle.tr_types.specs.KernelTables.{Coffer, is_id, stands_in}
-use Rattle.tr_types.specs.KernelRules.{IsSoundKernel}
-use Rattle.tr_types.specs.PathMap.{coffer_of_path, coffer_with}
+use Rattle.kern_model.specs.Rights.{is_row_of, with_row, without_row, key_for, those_against, IsLeastOf}
+use Rattle.kern_model.specs.KernelView.{pages_of}
+use Rattle.kern_model.specs.Journal.{kernel_word}
+use Rattle.kern_model.specs.Kernel.{coffers}
+use Rattle.kern_model.specs.KernelTables.{Coffer, is_id, stands_in}
+use Rattle.kern_model.specs.KernelRules.{IsSoundKernel}
+use Rattle.kern_model.specs.PathMap.{coffer_of_path, coffer_with}
 use Rattle.tr_types.specs.Permission.{refuses}
-use Rattle.tr_types.specs.KernelCalls.{Row, cred_in, cred_of, first_due, refused_where, row_of_maps, row_answer, answer_by, unless_refused, holds_any, or_none, located, is_bad_look, is_bad_second, find_row, found_for, least_of, key_or_none, mapped_as, map_row, unmap_row}
+use Rattle.kern_model.specs.KernelCalls.{Row, cred_in, cred_of, first_due, refused_where, row_of_maps, row_answer, answer_by, unless_refused, holds_any, or_none, located, is_bad_look, is_bad_second, find_row, found_for, least_of, key_or_none, mapped_as, map_row, unmap_row}
 use Rattle.tr_types.specs.declared.kernel_call.KernAnswer.{KernAnswer}
 use Rattle.tr_types.specs.declared.kernel_call.KernAnswer.TheVariants as answer
 use Rattle.tr_types.specs.declared.kernel_call.FoundAt.{FoundAt}

@@ -4,15 +4,17 @@ use Rattle.std.proofs.lemmas.List.Elements.{All-nil}
 use Rattle.pm_words.specs.Word.{Word}
 use Rattle.zo_layout.specs.Layout.{committed_word}
 use Rattle.pm_words.specs.Memory.{HasPages, word_at}
-use Rattle.tr_types.specs.Journal.{committed_count}
-use Rattle.tr_types.specs.KernelRules.{IsSoundKernel}
-use Rattle.tr_types.specs.Inner.{made_all, redo_events, IsCut}
-use Rattle.tr_types.specs.declared.inner.Inner.{Inner}
+use Rattle.kern_model.specs.Journal.{committed_count}
+use Rattle.kern_model.specs.KernelRules.{IsSoundKernel}
+use Rattle.kern_model.specs.Inner.{made_all, redo_events, IsCut}
+use Rattle.kern_model.specs.declared.inner.Inner.{Inner}
 use Rattle.tr_types.specs.declared.kernel_call.Holder.{Holder}
-use Rattle.tr_types.specs.KernelTables.{is_id, stands_in}
-use Rattle.tr_types.specs.KernelView.{pages_of}
-use Rattle.tr_types.specs.Journal.{kernel_word}
-use Rattle.tr_types.specs.JournalLaws.{ViewLaw, IsFinished, IsDurable}
+use Rattle.kern_model.specs.KernelTables.{is_id, stands_in}
+use Rattle.kern_model.specs.KernelView.{pages_of}
+use Rattle.kern_model.specs.Journal.{kernel_word}
+use Rattle.kern_model.specs.JournalLaws.{ViewLaw, IsFinished, IsDurable}
+use Rattle.kern_model.specs.Commits.{AreDurable, HasSteadyTables}
+use Rattle.kern_laws.proofs.CrashSteady.{steady_finished}
 use Rattle.kern_pages.specs.Owners.{owners_of}
 use Rattle.kern_view.proofs.SoundLemmas.{sound_after}
 use Rattle.kern_calls.specs.Calls.{KernelView, IsMounted}
@@ -64,3 +66,12 @@ mounted_fresh old new kernel law size sound is fresh idle =
 -- all events are a cut
 pub whole_cut : (events : List Inner) (old new : List Word) → new ≡ made_all events old → IsCut events old new
 whole_cut events old new is = (length events, is ∙ ap (λ (es : List Inner). made_all es old) (sym (take_all (length events) events (omega arith))))
+
+-- finished over durable words, a crash changes nothing of the kernel's pages
+pub steady_fresh : (old new : List Word) → HasPages (length old) → IsSoundKernel old → new ≡ made_all (redo_events old) old → AreDurable old → HasSteadyTables new
+steady_fresh old new size sound is durable =
+    let readable = sound.pairs.readable in
+    subst HasSteadyTables (sym is) (steady_finished old size (record {
+      room = readable.room;
+      homes = λ k d lt. let home = readable.homes k d lt in record { inside = home.inside; outside = home.outside };
+    }) durable)

@@ -5,9 +5,16 @@ use Rattle.std.proofs.lemmas.List.{map_push, get_or_past, length-set, get_or-set
 use Rattle.std.proofs.lemmas.List.Elements.{All-head, All-tail, Contains-append_left}
 use Rattle.tr_types.specs.declared.kernel_call.Holder.{Holder}
 use Rattle.tr_types.specs.declared.permission.Cred.{Cred}
-use Rattle.tr_types.specs.Rights.{process_of, are_together, holds_beside, key_in, is_writable, load_fault_by, store_fault_by, load_fault, store_fault}
+use Rattle.kern_model.specs.Rights.{process_of, are_together, holds_beside, key_in, is_writable, load_fault_by, store_fault_by, load_fault, store_fault}
+use Rattle.std.proofs.lemmas.List.FromFn.{get_or-map-range_with_len, length-map-range_with_len}
+use Rattle.pm_words.specs.Word.{Word}
+use Rattle.tr_types.specs.declared.action.FaultKind.TheVariants.{NotMapped}
+use Rattle.kern_model.specs.KernelView.{pages_of}
+use Rattle.kern_model.specs.Kernel.{kernel_owner}
+use Rattle.kern_pages.specs.Owners.{owners_of}
 use Rattle.page_rights.specs.Tables.{IsRow}
-use Rattle.kern_calls.specs.Parts.{coffer_or_none, AreTied}
+use Rattle.kern_calls.specs.Calls.{KernelView, IsMounted}
+use Rattle.kern_calls.specs.Standing.{coffer_or_none, StandInTables}
 
 -- nobody holds what has a number that is no coffer's
 pub held_by_nobody : (threads : List (ℕ × ℕ)) (holders : List Holder) (thread coffer : ℕ) → All IsRow holders → (coffer ≡ 0) ⊎ (256 < coffer) → key_in threads holders thread coffer ≡ None
@@ -47,6 +54,25 @@ module _ (threads : List (ℕ × ℕ)) (holders : List Holder) (thread pkru : �
   pub same_store : (under owner : ℕ) → under ≡ coffer_or_none owner → store_fault threads holders thread pkru under ≡ store_fault threads holders thread pkru owner
   same_store under owner is = ap (store_fault threads holders thread pkru) is ∙ store_under owner (cases_eq owner 65535)
 
+  -- a page that is nobody's is loaded and stored by none
+  pub nobodys_load : (owner : ℕ) → owner ≡ 0 → load_fault threads holders thread pkru owner ≡ Some NotMapped
+  nobodys_load owner none = ap (λ (k : Option ℕ). load_fault_by k pkru) (held_by_nobody threads holders thread owner rows (inl none))
+
+  pub nobodys_store : (owner : ℕ) → owner ≡ 0 → store_fault threads holders thread pkru owner ≡ Some NotMapped
+  nobodys_store owner none = ap (λ (k : Option ℕ). store_fault_by k (is_writable threads holders thread owner) pkru) (held_by_nobody threads holders thread owner rows (inl none))
+
+-- the kernel knows whose a page is, and that one past the image's end is nobody's
+pub owner_told : (kernel : KernelView) (words : List Word) (page : ℕ) → IsMounted kernel words → page < pages_of words → slice_index kernel.owners page ≡ kernel_owner words page
+owner_told kernel words page mounted lt =
+    ap (λ (owners : List ℕ). slice_index owners page) mounted.told
+    ∙ get_or-map-range_with_len (kernel_owner words) 0 (pages_of words) page page 0 lt (omega arith)
+
+pub past_told : (kernel : KernelView) (words : List Word) (page : ℕ) → IsMounted kernel words → pages_of words ≤ page → slice_index kernel.owners page ≡ 0
+past_told kernel words page mounted past =
+    let len = length-map-range_with_len (kernel_owner words) 0 (pages_of words) in
+    ap (λ (owners : List ℕ). slice_index owners page) mounted.told
+    ∙ get_or_past (owners_of words) page 0 (omega (arith, len, past))
+
 -- a thread of those that were started, and one more
 process_among : (threads : List (ℕ × ℕ)) (thread process t p : ℕ) → process_of (threads ++ (thread, process) ∷ []) t ≡ Some p → (process_of threads t ≡ Some p) ⊎ (p ≡ process)
 process_among [] thread process t p is = by (eqb thread t) is
@@ -61,8 +87,8 @@ process_among ((u, q) ∷ threads) thread process t p is = by (eqb u t) is (proc
     by true is rest = inl is
     by false is rest = rest is
 
-pub tied_with_thread : (processes : List (ℕ × Cred)) (threads : List (ℕ × ℕ)) (under owners : List ℕ) (thread process : ℕ) → AreTied processes threads under owners → Contains (map (λ p. p.0) processes) process
-    → AreTied processes (threads ++ (thread, process) ∷ []) under owners
+pub tied_with_thread : (processes : List (ℕ × Cred)) (threads : List (ℕ × ℕ)) (under owners : List ℕ) (thread process : ℕ) → StandInTables processes threads under owners → Contains (map (λ p. p.0) processes) process
+    → StandInTables processes (threads ++ (thread, process) ∷ []) under owners
 tied_with_thread processes threads under owners thread process tied has = record {
   started = λ t p is. by t p (process_among threads thread process t p is);
   count = tied.count;
@@ -73,8 +99,8 @@ tied_with_thread processes threads under owners thread process tied has = record
     by t p (inl is) = tied.started t p is
     by t p (inr e) = subst (Contains (map (λ p. p.0) processes)) (sym e) has
 
-pub tied_with_process : (processes after : List (ℕ × Cred)) (threads : List (ℕ × ℕ)) (under owners : List ℕ) (process : ℕ) (cred : Cred) → AreTied processes threads under owners
-    → after ≡ processes ++ (process, cred) ∷ [] → AreTied after threads under owners
+pub tied_with_process : (processes after : List (ℕ × Cred)) (threads : List (ℕ × ℕ)) (under owners : List ℕ) (process : ℕ) (cred : Cred) → StandInTables processes threads under owners
+    → after ≡ processes ++ (process, cred) ∷ [] → StandInTables after threads under owners
 tied_with_process processes after threads under owners process cred tied is = record {
   started = λ t p at.
       subst (λ (all : List ℕ). Contains all p) (sym (ap (λ (ps : List (ℕ × Cred)). map (λ p. p.0) ps) is ∙ map_push (λ p. p.0) processes (process, cred)))
@@ -85,7 +111,7 @@ tied_with_process processes after threads under owners process cred tied is = re
 
 -- With nothing started.
 pub tied_at_first : (threads : List (ℕ × ℕ)) (under owners : List ℕ) → threads ≡ [] → length under ≡ length owners → ((page : ℕ) → slice_index under page ≡ coffer_or_none (slice_index owners page))
-    → AreTied [] threads under owners
+    → StandInTables [] threads under owners
 tied_at_first threads under owners none count stands = record {
   started = λ t p is. let no : None ≡ Some p = sym (ap (λ (ts : List (ℕ × ℕ)). process_of ts t) none) ∙ is in absurd (cc);
   count = count;

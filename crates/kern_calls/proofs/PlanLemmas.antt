@@ -2,9 +2,9 @@
 use Rattle.std.proofs.Common.{◌≡◌, ℕ, List, Result, sym, subst, ap}
 use Rattle.std.specs.Prelude.{IsSome}
 use Rattle.pm_words.specs.Word.{Word}
-use Rattle.tr_types.specs.Rights.{process_of}
-use Rattle.tr_types.specs.KernelCalls.{Callers, row_of, cred_of}
-use Rattle.tr_types.specs.Commits.{IsCaller, IsFit}
+use Rattle.kern_model.specs.Rights.{process_of}
+use Rattle.kern_model.specs.KernelCalls.{Callers, row_of, cred_of}
+use Rattle.kern_model.specs.Commits.{IsCaller, IsFit}
 use Rattle.tr_types.specs.declared.kernel_call.Kcall.TheVariants as call
 use Rattle.tr_types.specs.declared.kernel_call.Holder.{Holder}
 use Rattle.tr_types.specs.declared.kernel_call.Kcall.{Kcall}

@@ -2,10 +2,10 @@
 use Rattle.std.specs.Prelude.{◌≡◌, ◌⊎◌, ℕ, List, [], ◌∷◌, ◌++◌, Bool, ◌==◌, IsSome}
 use Rattle.std.specs.List.{list_any}
 use Rattle.pm_words.specs.Word.{Word}
-use Rattle.tr_types.specs.Rights.{process_of}
-use Rattle.tr_types.specs.Inner.{IsCut}
-use Rattle.tr_types.specs.KernelCalls.{Callers, recovery_number, answer_of, inner_of, words_after, holders_after}
-use Rattle.tr_types.specs.Commits.{IsWorking}
+use Rattle.kern_model.specs.Rights.{process_of}
+use Rattle.kern_model.specs.Inner.{IsCut}
+use Rattle.kern_model.specs.KernelCalls.{Callers, recovery_number, answer_of, inner_of, words_after, holders_after}
+use Rattle.kern_model.specs.Commits.{IsWorking, HasSteadyTables}
 use Rattle.tr_types.specs.declared.kernel_call.Kcall.{Kcall}
 use Rattle.tr_types.specs.declared.kernel_call.Kcall.TheVariants as call
 use Rattle.tr_types.specs.declared.kernel_call.KernAnswer.{KernAnswer}
@@ -21,23 +21,33 @@ pub record KernelView : Type 0 where
   pub holders : List Holder
   pub owners : List ℕ
 
+-- it knows whose each page of a memory is
+abbrev pub KnowsOwners : KernelView → List Word → Type 0
+KnowsOwners kernel words = kernel.owners ≡ owners_of words
+
 -- The kernel stands over a memory: it works there, and knows whose each page is.
 pub record IsMounted (kernel : KernelView) (words : List Word) : Type 0 where
   pub working : IsWorking words kernel.holders
-  pub told : kernel.owners ≡ owners_of words
+  pub told : KnowsOwners kernel words
+
+-- The rest of the kernel's invariant: a crash can change nothing of its pages. It comes with durable words and with a new image, and is kept
+-- from then on; where it doesn't hold, nothing is said.
+abbrev pub StaysSteady : List Word → List Word → Type 0
+StaysSteady old new = HasSteadyTables old → HasSteadyTables new
 
 -- a call is that of a thread that was started, or the recovery's own
 abbrev pub MayCall : Callers → ℕ → Kcall → Type 0
 MayCall callers thread (call.Recover id ready) = (thread ≡ recovery_number) ⊎ IsSome (process_of callers.threads thread)
 MayCall callers thread kcall = IsSome (process_of callers.threads thread)
 
--- A call was done: its answer, the memory and the holders are as its row says, and the kernel stands over the memory still.
+-- A call was done: its answer, the memory and the holders are as its row says, and the kernel's invariant stands over the memory still.
 pub record IsDone (old : KernelView) (words : List Word) (thread now : ℕ) (kcall : Kcall) (answer : KernAnswer) (new : KernelView) (after : List Word) : Type 0 where
   pub answers : answer ≡ answer_of old.callers words old.holders thread now kcall
   pub memory : after ≡ words_after old.callers words old.holders thread now kcall
   pub callers : new.callers ≡ old.callers
   pub holders : new.holders ≡ holders_after old.callers words old.holders thread now kcall
   pub mounted : IsMounted new after
+  pub steady : StaysSteady words after
 
 -- Where memory runs out, the memory is as after some number of the call's inner steps, and nothing is said of the kernel.
 abbrev pub Answered : KernelView → List Word → ℕ → ℕ → Kcall → KernAnswer → KernelView → List Word → Type 0

@@ -1,6 +1,6 @@
 -- what callers see of a kernel, and what its calls answer
 pub mod Calls
--- what ties the parts of a kernel together
-pub mod Parts
+-- how pages stand in the tables of rights
+pub mod Standing
 -- the parts of a kernel call
 pub mod Steps

@@ -3,11 +3,12 @@ use Rattle.std.specs.Prelude.{◌≡◌, ◌⊎◌, ℕ, ◌<◌, ◌≤◌, Lis
 use Rattle.std.specs.List.{list_any}
 use Rattle.zo_layout.specs.Layout.{kernel_pages, owner_word}
 use Rattle.pm_words.specs.Word.{Word}
-use Rattle.tr_types.specs.KernelView.{pages_of}
-use Rattle.tr_types.specs.Kernel.{kernel_owner}
-use Rattle.tr_types.specs.Commits.{IsOuter}
-use Rattle.tr_types.specs.Rights.{key_for, those_against, with_row}
-use Rattle.tr_types.specs.KernelCalls.{Callers, Row, row_of_maps, row_answer, unless_refused, refused_where, least_of, key_or_none, without_coffer}
+use Rattle.kern_model.specs.KernelView.{pages_of}
+use Rattle.kern_model.specs.Kernel.{kernel_owner}
+use Rattle.kern_model.specs.Commits.{IsOuter}
+use Rattle.kern_model.specs.Rights.{key_for, those_against, with_row}
+use Rattle.kern_model.specs.KernelCalls.{Callers, Row, row_of_maps, row_answer, unless_refused, refused_where, least_of, key_or_none, without_coffer}
+use Rattle.kern_model.specs.declared.limits.TheConstants.{LAST_COFFER}
 use Rattle.tr_types.specs.declared.kernel_call.Kcall.{Kcall}
 use Rattle.tr_types.specs.declared.kernel_call.Kcall.TheVariants as call
 use Rattle.tr_types.specs.declared.kernel_call.KernAnswer.{KernAnswer}
@@ -87,7 +88,7 @@ pub record IsNamed (words : List Word) (pairs : List (ℕ × ℕ)) (page : ℕ) 
 pub record KnowsUpTo (words : List Word) (pairs : List (ℕ × ℕ)) (owners : List ℕ) : Type 0 where
   pub count : length owners ≡ pages_of words
   pub told : (page : ℕ) → page < pages_of words → (slice_index owners page ≡ kernel_owner words page) ⊎ IsNamed words pairs page
-  pub outer : (page : ℕ) → IsOuter words page → slice_index owners page ≤ 256
+  pub outer : (page : ℕ) → IsOuter words page → slice_index owners page ≤ LAST_COFFER
 
 -- The word at an address says whose a page is that isn't the kernel's.
 pub record IsPageAt (pages addr page : ℕ) : Type 0 where

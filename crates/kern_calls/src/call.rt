@@ -1,12 +1,12 @@
 // A kernel call of a thread.
 ghost use Rattle.std.specs.Prelude.{◌≡◌, length, IfOk};
-ghost use Rattle.tr_types.specs.KernelCalls.{IsCall, inner_of};
+ghost use Rattle.kern_model.specs.KernelCalls.{IsCall, inner_of};
 ghost use Rattle.kern_calls.specs.Calls.{IsMounted, MayCall, Answered};
 ghost use Rattle.kern_calls.specs.Steps.{IsChange};
 
 use crate::kernel::Kernel;
 use kern_commit::{commit, commit_law, count_events};
-use kern_laws::row_law;
+use kern_laws::{crash_law, row_law};
 use kern_pages::owners_law;
 use kern_plans::find;
 use pm_words::{NoMemory, Words};
@@ -57,8 +57,9 @@ impl Kernel {
         if commit(self.alloc, words, &plan.granted, &plan.pairs).is_err() {
             return KernAnswer::NoMemory;
         }
-        // The kernel can stand over what that leaves.
+        // The kernel can stand over what that leaves, and a crash changes nothing of its pages.
         commit_law();
+        crash_law();
         owners_law();
         if self.follow(words, &plan.pairs).is_err() {
             return KernAnswer::NoMemory;

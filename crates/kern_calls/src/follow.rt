@@ -1,9 +1,9 @@
 // What the kernel keeps beside the words, brought up to date once a call's words are stored.
 ghost use Rattle.std.specs.Prelude.{◌≡◌, ℕ, ◌≤◌, ◌<◌, length, slice_index, slice_set, OnOk, OnErr, IfSome};
-ghost use Rattle.tr_types.specs.KernelView.{pages_of};
-ghost use Rattle.tr_types.specs.KernelRules.{IsSoundKernel};
+ghost use Rattle.kern_model.specs.KernelView.{pages_of};
+ghost use Rattle.kern_model.specs.KernelRules.{IsSoundKernel};
 ghost use Rattle.kern_pages.specs.Owners.{owners_of};
-ghost use Rattle.tr_types.specs.Commits.{IsOuter};
+ghost use Rattle.kern_model.specs.Commits.{IsOuter};
 ghost use Rattle.kern_calls.specs.Steps.{IsPageAt, KnowsUpTo, FollowsWord, with_owners, with_holders, holders_left};
 
 use crate::kernel::Kernel;

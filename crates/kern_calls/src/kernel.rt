@@ -1,10 +1,16 @@
 // The kernel, and who calls it.
-ghost use Rattle.std.specs.Prelude.{◌≡◌, ◌++◌, ◌∷◌, [], ℕ, ◌<◌, length, map, None, IsSome, slice_index, OnOk, OnErr, Contains};
-ghost use Rattle.tr_types.specs.Rights as rights;
-ghost use Rattle.tr_types.specs.KernelCalls.{Callers};
+ghost use Rattle.std.specs.Prelude.{◌≡◌, ◌++◌, ◌∷◌, [], ℕ, ◌<◌, ◌≤◌, List, map, None, Some, IsSome, OnOk, OnErr, Contains};
+ghost use Rattle.pm_words.specs.Word.{Word};
+ghost use Rattle.tr_types.specs.declared.action.FaultKind.TheVariants.{NotMapped};
+ghost use Rattle.kern_model.specs.KernelView.{pages_of};
+ghost use Rattle.kern_model.specs.Kernel.{kernel_owner};
+ghost use Rattle.kern_model.specs.Rights as rights;
+ghost use Rattle.kern_model.specs.KernelCalls.{Callers};
 ghost use Rattle.kern_calls.specs.Calls as spec;
-ghost use Rattle.kern_calls.specs.Parts as parts;
+ghost use Rattle.kern_calls.specs.Calls.{IsMounted};
+ghost use Rattle.kern_calls.specs.Standing as parts;
 
+use kern_model::KERNEL;
 use kern_pages::Owners;
 use page_rights::{Pkru, Tables};
 use pm_words::NoMemory;
@@ -27,13 +33,13 @@ pub struct Kernel {
 
 impl Model for Kernel {
     ghost use Rattle.kern_calls.specs.Calls.{KernelView};
-    ghost use Rattle.kern_calls.specs.Parts.{AreTied};
+    ghost use Rattle.kern_calls.specs.Standing.{StandInTables};
 
     ghost Value = { KernelView };
 
     ghost view = { λ k. record { callers = record { processes = k.processes.items; threads = k.tables.threads }; holders = k.tables.holders; owners = k.owners } };
 
-    ghost invariant = { λ k. AreTied k.processes.items k.tables.threads k.tables.owners k.owners };
+    ghost invariant = { λ k. StandInTables k.processes.items k.tables.threads k.tables.owners k.owners };
 }
 
 impl Kernel {
@@ -81,25 +87,26 @@ impl Kernel {
         self.tables.process_of(thread)
     }
 
-    /// Why a load of a page of the image by a thread is refused; none if it may. Takes no memory.
+    /// Why a load of a page by a thread is refused, over the words of the image; none if it may. A page past
+    /// the image's end is not mapped. Takes no memory.
     pub fn may_load(&self, thread: u16, pkru: Pkru, page: u32) -> Option<FaultKind>
         requires { IsSome (rights.process_of self.now.callers.threads thread) }
-        ensures { result ≡ rights.load_fault self.now.callers.threads self.now.holders thread pkru.0 (slice_index self.now.owners page) }
+        ensures inside { (words : List Word) → IsMounted self.now words → page < pages_of words → result ≡ rights.load_fault self.now.callers.threads self.now.holders thread pkru.0 (kernel_owner words page) }
+        ensures outside { (words : List Word) → IsMounted self.now words → pages_of words ≤ page → result ≡ Some NotMapped }
     {
         self.tables.may_load(thread, pkru, page)
     }
 
-    /// Why a store to a page of the image by a thread is refused; none if it may. Takes no memory.
+    /// Why a store to a page by a thread is refused, over the words of the image; none if it may. A page past
+    /// the image's end is not mapped. Takes no memory.
     pub fn may_store(&self, thread: u16, pkru: Pkru, page: u32) -> Option<FaultKind>
         requires { IsSome (rights.process_of self.now.callers.threads thread) }
-        ensures { result ≡ rights.store_fault self.now.callers.threads self.now.holders thread pkru.0 (slice_index self.now.owners page) }
+        ensures inside { (words : List Word) → IsMounted self.now words → page < pages_of words → result ≡ rights.store_fault self.now.callers.threads self.now.holders thread pkru.0 (kernel_owner words page) }
+        ensures outside { (words : List Word) → IsMounted self.now words → pages_of words ≤ page → result ≡ Some NotMapped }
     {
         self.tables.may_store(thread, pkru, page)
     }
 }
-
-// What the owner table says of a page that is the kernel's.
-const KERNEL: u16 = 65_535;
 
 // The coffer under which a page with this owner stands; 0, none, where it is the kernel's.
 pub(crate) fn coffer_or_none(owner: u16) -> u16

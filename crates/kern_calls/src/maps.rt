@@ -1,10 +1,10 @@
 // Calls that change no word but who holds which coffer.
 ghost use Rattle.std.specs.Prelude.{◌≡◌, ◌≤◌, ℕ, map, Contains, Some, IsSome};
-ghost use Rattle.tr_types.specs.Rights.{process_of};
-ghost use Rattle.tr_types.specs.KernelRules.{IsSoundKernel};
-ghost use Rattle.tr_types.specs.KernelCalls as calls;
-ghost use Rattle.tr_types.specs.KernelCalls.{IsPathText};
-ghost use Rattle.tr_types.specs.Commits.{IsFit};
+ghost use Rattle.kern_model.specs.Rights.{process_of};
+ghost use Rattle.kern_model.specs.KernelRules.{IsSoundKernel};
+ghost use Rattle.kern_model.specs.KernelCalls as calls;
+ghost use Rattle.kern_model.specs.KernelCalls.{IsPathText};
+ghost use Rattle.kern_model.specs.Commits.{IsFit};
 ghost use Rattle.kern_pages.specs.Owners.{owners_of};
 ghost use Rattle.kern_calls.specs.Steps.{FollowsRow, mapped_under, hold_row};
 
@@ -14,12 +14,13 @@ use kern_plans::find;
 use kern_roots::{Root, RootState, entry_of};
 use page_rights::MapFault;
 use pm_words::Words;
-use tr_types::{Cred, KernAnswer, Mapped, Path, Right, refuses};
+use tr_types::{Cred, Groups, KernAnswer, Mapped, Path, Right, refuses};
 
 // With what a thread calls that no process has started, as the recovery.
-const NOBODY: Cred = Cred {
+const NO_ONE: Cred = Cred {
     uid: u32::MAX,
     gid: u32::MAX,
+    groups: Groups::NONE,
 };
 
 // A coffer that is to be mapped: its number, its entry, how many pages it has, and the length of its
@@ -131,7 +132,7 @@ impl Kernel {
     {
         match self.tables.process_of(thread) {
             Some(process) => cred_in(&self.processes, process),
-            None => NOBODY,
+            None => NO_ONE,
         }
     }
 }
@@ -144,16 +145,16 @@ fn cred_in(processes: &[(u8, Cred)], process: u8) -> Cred
 {
     for &(started, cred) in processes {
         if started == process {
-            return numbered(cred.uid, cred.gid);
+            return numbered(cred.uid, cred.gid, cred.groups);
         }
     }
     unreachable!()
 }
 
 // Credentials with these numbers, which are seen to be of 32 bits.
-fn numbered(uid: u32, gid: u32) -> Cred
-    ensures same { result ≡ record { uid = uid; gid = gid } }
+fn numbered(uid: u32, gid: u32, groups: Groups) -> Cred
+    ensures same { result ≡ record { uid = uid; gid = gid; groups = groups } }
     ensures fit { IsFit result }
 {
-    Cred { uid, gid }
+    Cred { uid, gid, groups }
 }

@@ -3,16 +3,17 @@ ghost use Rattle.std.specs.Prelude.{◌≡◌, ◌≢◌, ◌⊎◌, ℕ, [], le
 ghost use Rattle.std.specs.Result.{IsErrOf};
 ghost use Rattle.zo_layout.specs.Layout.{committed_word};
 ghost use Rattle.pm_words.specs.Memory.{word_at};
-ghost use Rattle.tr_types.specs.Journal.{committed_count};
-ghost use Rattle.tr_types.specs.KernelRules.{IsFirstFault, IsSoundKernel};
-ghost use Rattle.tr_types.specs.Inner.{made_all, IsCut};
-ghost use Rattle.tr_types.specs.Inner.{redo_events};
-ghost use Rattle.tr_types.specs.JournalLaws.{IsDurable};
-ghost use Rattle.tr_types.specs.KernelCalls.{Callers};
+ghost use Rattle.kern_model.specs.Journal.{committed_count};
+ghost use Rattle.kern_model.specs.KernelRules.{IsFirstFault, IsSoundKernel};
+ghost use Rattle.kern_model.specs.Inner.{made_all, IsCut};
+ghost use Rattle.kern_model.specs.Inner.{redo_events};
+ghost use Rattle.kern_model.specs.JournalLaws.{IsDurable};
+ghost use Rattle.kern_model.specs.KernelCalls.{Callers};
+ghost use Rattle.kern_model.specs.Commits.{AreDurable, HasSteadyTables};
 ghost use Rattle.kern_pages.specs.Owners.{owners_of};
-ghost use Rattle.tr_types.specs.KernelView.{pages_of};
-ghost use Rattle.kern_calls.specs.Calls.{KernelView, IsMounted};
-ghost use Rattle.kern_calls.specs.Parts.{coffer_or_none};
+ghost use Rattle.kern_model.specs.KernelView.{pages_of};
+ghost use Rattle.kern_calls.specs.Calls.{KernelView, IsMounted, KnowsOwners};
+ghost use Rattle.kern_calls.specs.Standing.{coffer_or_none};
 
 use crate::kernel::{Kernel, coffer_or_none};
 use kern_journal::{redo, view_law};
@@ -48,7 +49,8 @@ impl Kernel {
     ///
     /// `BadKernel` comes where a rule of the kernel's pages fails, with the place of the first one. Such
     /// an image keeps its words, also where memory runs out. That nothing is committed after is durable
-    /// where something was, or where it was durable before. `NoMemory` leaves the words as they are
+    /// where something was, or where it was durable before. Over durable words a crash can change nothing of
+    /// the kernel's pages then. `NoMemory` leaves the words as they are
     /// after some number of the inner events that finish the committed pairs.
     pub fn mount(alloc: Global, words: &mut Words) -> Result<Kernel, MountFault>
         ensures ok { OnOk result (words.new ≡ made_all (redo_events words.old) words.old) }
@@ -62,8 +64,9 @@ impl Kernel {
         ensures untouched { (place : ℕ) → IsFirstFault words.old place → words.new ≡ words.old }
         ensures no_memory { IsErrOf result MountFault.NoMemory → IsCut (redo_events words.old) words.old words.new }
         ensures fresh { IfOk result (λ kernel. (kernel.callers ≡ record { processes = []; threads = [] }) × (kernel.holders ≡ [])) }
-        ensures told { IfOk result (λ kernel. kernel.owners ≡ owners_of words.new) }
+        ensures told { IfOk result (λ kernel. KnowsOwners kernel words.new) }
         ensures mounted { IfOk result (λ kernel. IsDurable words.new committed_word 0 → IsMounted kernel words.new) }
+        ensures steady { OnOk result (AreDurable words.old → HasSteadyTables words.new) }
         ensures len { length words.new ≡ length words.old }
     {
         match first_fault(alloc, words)? {

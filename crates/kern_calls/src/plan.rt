@@ -1,8 +1,8 @@
 // What a call that changes words would do.
 ghost use Rattle.std.specs.Prelude.{◌≡◌, IsSome};
-ghost use Rattle.tr_types.specs.Rights.{process_of};
-ghost use Rattle.tr_types.specs.KernelCalls.{Callers, IsCall, row_of};
-ghost use Rattle.tr_types.specs.KernelCalls as calls;
+ghost use Rattle.kern_model.specs.Rights.{process_of};
+ghost use Rattle.kern_model.specs.KernelCalls.{Callers, IsCall, row_of};
+ghost use Rattle.kern_model.specs.KernelCalls as calls;
 ghost use Rattle.kern_plans.specs.Asked.{HasCred};
 ghost use Rattle.kern_plans.specs.Plans.{Plans};
 ghost use Rattle.kern_calls.specs.Calls.{IsMounted, MayCall};

@@ -5,16 +5,16 @@ use Rattle.std.proofs.lemmas.List.Sums.{fold-append}
 use Rattle.zo_layout.specs.Layout.{committed_word, pair_capacity}
 use Rattle.pm_words.specs.Word.{Word}
 use Rattle.pm_words.specs.Memory.{HasPages}
-use Rattle.tr_types.specs.Kernel.{read_after}
-use Rattle.tr_types.specs.Inner.{IsHome, made, made_all, phase, journal_words, count_pair, finish_events, journal_events, laid_over}
-use Rattle.tr_types.specs.JournalLaws.{IsDurable, IsUnnamed, IsReady, IsApplied}
-use Rattle.tr_types.specs.KernelCalls.{in_order, zero_events, stored_events}
-use Rattle.tr_types.specs.Commits.{IsOuter, MayCommit, IsCommitted, CommitLaw, present_at}
-use Rattle.tr_types.proofs.WordSteps.{Spares, length_run}
-use Rattle.tr_types.proofs.LaidLemmas.{IsNamed, named_at, named_cases, laid_unnamed, laid_own}
-use Rattle.tr_types.proofs.PhaseLemmas.{durable_kept, kept_by, home_from_words, home_from_count, unnamed_spared}
-use Rattle.tr_types.proofs.FinishLemmas.{applied}
-use Rattle.tr_types.proofs.GivenSteps.{zeroes_spare, rising_differ}
+use Rattle.kern_model.specs.Kernel.{read_after}
+use Rattle.kern_model.specs.Inner.{IsHome, made, made_all, phase, journal_words, count_pair, finish_events, journal_events, laid_over}
+use Rattle.kern_model.specs.JournalLaws.{IsDurable, IsUnnamed, IsReady, IsApplied}
+use Rattle.kern_model.specs.KernelCalls.{in_order, zero_events, stored_events}
+use Rattle.kern_model.specs.Commits.{IsOuter, MayCommit, IsCommitted, CommitLaw, present_at}
+use Rattle.kern_model.proofs.WordSteps.{Spares, length_run}
+use Rattle.kern_model.proofs.LaidLemmas.{IsNamed, named_at, named_cases, laid_unnamed, laid_own}
+use Rattle.kern_model.proofs.PhaseLemmas.{durable_kept, kept_by, home_from_words, home_from_count, unnamed_spared}
+use Rattle.kern_model.proofs.FinishLemmas.{applied}
+use Rattle.kern_model.proofs.GivenSteps.{zeroes_spare, rising_differ}
 use Rattle.kern_commit.proofs.OrderLemmas.{in_order_all, in_order_rises, laid_in_order, named_in_order, named_place}
 use Rattle.kern_commit.proofs.ZeroedLemmas.{zeroed_durable}
 

@@ -6,10 +6,10 @@ use Rattle.std.proofs.lemmas.Bool.{cond_both}
 use Rattle.std.proofs.lemmas.List.{length-append, length-map}
 use Rattle.std.proofs.lemmas.List.FromFn.{length-map-range_with_len}
 use Rattle.zo_layout.specs.Layout.{page_at, word_of}
-use Rattle.tr_types.specs.declared.inner.Inner.{Inner}
-use Rattle.tr_types.specs.declared.inner.Inner.TheVariants.{Store, Flush, Fence}
-use Rattle.tr_types.specs.Inner.{line_of, with_line, lines_of, stores_of, flushes_at, phase, journal_words, count_pair, finish_events, journal_events}
-use Rattle.tr_types.specs.KernelCalls.{zeros_of, lines_of_page, zero_events}
+use Rattle.kern_model.specs.declared.inner.Inner.{Inner}
+use Rattle.kern_model.specs.declared.inner.Inner.TheVariants.{Store, Flush, Fence}
+use Rattle.kern_model.specs.Inner.{line_of, with_line, lines_of, stores_of, flushes_at, phase, journal_words, count_pair, finish_events, journal_events}
+use Rattle.kern_model.specs.KernelCalls.{zeros_of, lines_of_page, zero_events}
 
 pages_length : (f : ℕ → List Inner) (n : ℕ) (pages : List ℕ) → ((page : ℕ) → length (f page) ≡ n) → length (flat_map f pages) ≡ n * length pages
 pages_length f n [] each = omega arith

@@ -1,30 +1,30 @@
 -- A crash inside of a commit leaves the whole or none.
-use Rattle.std.proofs.Common.{◌≡◌, ◌≢◌, ◌⊎◌, inl, inr, ℕ, ◌-◌, ◌/◌, ◌<◌, ◌≤◌, List, [], ◌∷◌, ◌++◌, take, length, get_or, refl, sym, ap, subst, ◌∙◌, arith, All, Contains}
+use Rattle.std.proofs.Common.{◌≡◌, ◌≢◌, ◌⊎◌, inl, inr, ℕ, ◌+◌, ◌-◌, ◌/◌, ◌<◌, ◌≤◌, List, [], ◌∷◌, ◌++◌, take, length, get_or, refl, sym, ap, subst, ◌∙◌, arith, All, Contains}
 use Rattle.std.proofs.lemmas.Bool.{cases_lt}
-use Rattle.std.proofs.lemmas.List.{take_all, take-append-le, append-nil}
+use Rattle.std.proofs.lemmas.List.{take_all, take-append-le, append-nil, length-append}
 use Rattle.std.proofs.lemmas.List.Elements.{All-take, All-append}
 use Rattle.std.proofs.lemmas.List.Sums.{fold-append}
 use Rattle.zo_layout.specs.Layout.{committed_word}
 use Rattle.pm_words.specs.Word.{Word, crash_list}
 use Rattle.pm_words.specs.Memory.{word_at}
 use Rattle.pm_words.specs.Crash.{MayLeave}
-use Rattle.tr_types.specs.declared.inner.Inner.{Inner}
-use Rattle.tr_types.specs.Journal.{IsHome, IsReadable, laid_over}
-use Rattle.tr_types.specs.Inner.{made, made_all, journal_events, redo_events}
-use Rattle.tr_types.specs.JournalLaws.{IsDurable, IsUnnamed, MayCome}
-use Rattle.tr_types.specs.JournalLaws as journal
-use Rattle.tr_types.specs.KernelCalls.{in_order, zero_events, stored_events}
-use Rattle.tr_types.specs.Commits.{MayCommit, IsCommitted, present_at}
-use Rattle.tr_types.proofs.WordSteps.{Spares, length_run, within_shortened}
-use Rattle.tr_types.proofs.LaidLemmas.{IsNamed, named_at, named_cases, laid_unnamed}
-use Rattle.tr_types.proofs.PhaseLemmas.{kept_by, durable_kept, one_value, take_past}
-use Rattle.tr_types.proofs.GivenSteps.{zeroes_spare}
-use Rattle.tr_types.proofs.CutLemmas.{durable_crashed}
-use Rattle.tr_types.proofs.CrashLemmas.{idle_readable, crash_anywhere}
+use Rattle.kern_model.specs.declared.inner.Inner.{Inner}
+use Rattle.kern_model.specs.Journal.{IsHome, IsReadable, laid_over}
+use Rattle.kern_model.specs.Inner.{made, made_all, journal_events, redo_events}
+use Rattle.kern_model.specs.JournalLaws.{IsDurable, IsUnnamed, MayCome, steps_to_stored, IsThrough}
+use Rattle.kern_model.specs.JournalLaws as journal
+use Rattle.kern_model.specs.KernelCalls.{in_order, zero_events, stored_events}
+use Rattle.kern_model.specs.Commits.{MayCommit, IsCommitted, present_at}
+use Rattle.kern_model.proofs.WordSteps.{Spares, length_run, within_shortened}
+use Rattle.kern_model.proofs.LaidLemmas.{IsNamed, named_at, named_cases, laid_unnamed}
+use Rattle.kern_model.proofs.PhaseLemmas.{kept_by, durable_kept, one_value, take_past}
+use Rattle.kern_model.proofs.GivenSteps.{zeroes_spare}
+use Rattle.kern_model.proofs.CutLemmas.{durable_crashed}
+use Rattle.kern_model.proofs.CrashLemmas.{idle_readable, crash_anywhere}
 use Rattle.kern_commit.proofs.OrderLemmas.{in_order_all, laid_in_order, named_in_order, named_place}
 use Rattle.kern_commit.proofs.ZeroedLemmas.{zeroed_durable}
 use Rattle.kern_commit.proofs.CommitLemmas.{named_is, away, stored_spares, spares_journal, ready, committed_is}
-use Rattle.kern_commit.specs.Crashes.{IsThere, IsAsBefore, Survives, CommitCrashLaw, OthersLaw}
+use Rattle.kern_commit.specs.Crashes.{IsThere, IsAsBefore, IsTaken, Survives, CommitCrashLaw, OthersLaw}
 use Rattle.kern_commit.proofs.CrashWords.{Clears, zeros_clear, cleared, redo_none, idle_crashes}
 
 module _ (words : List Word) (granted : List ℕ) (pairs : List (ℕ × ℕ)) (may : MayCommit words granted pairs) where
@@ -67,13 +67,15 @@ module _ (words : List Word) (granted : List ℕ) (pairs : List (ℕ × ℕ)) (m
 
   -- before anything is committed: pages are zeroed, in part or whole
   zeroing : (count : ℕ) (es : List Inner) (cuts : List ℕ) (left after : List Word) → All Clears es → ((addr : ℕ) → All (Spares addr) (zero_events granted) → All (Spares addr) es) → MayLeave (made_all es words) left
-      → MayCome cuts left after → (length (zero_events granted ++ stored_events pairs) ≤ count → IsThere granted pairs (made_all (redo_events after) after)) → Survives granted pairs words count after
-  zeroing count es cuts left after clears some leave come at_end = record {
+      → MayCome cuts left after → (length (zero_events granted ++ steps_to_stored (in_order pairs)) < count → IsThere granted pairs (made_all (redo_events after) after))
+      → (length (zero_events granted ++ stored_events pairs) ≤ count → IsThere granted pairs (made_all (redo_events after) after)) → Survives granted pairs words count left after
+  zeroing count es cuts left after clears some leave come past at_end = record {
     readable = idle_readable after idle_after;
     whole_or_none = record {
       len = ap (λ (ws : List Word). length ws) same ∙ crash.len ∙ length_run es words;
       idle = subst (λ (ws : List Word). IsDurable ws committed_word 0) (sym same) idle_after;
-      either = inr (λ k d lt. before (get_or pairs k d).0 (may.homes k d lt));
+      whole = taken;
+      none = λ early k d lt. before (get_or pairs k d).0 (may.homes k d lt);
       others = λ addr home none. before addr home;
     };
     at_end = at_end;
@@ -81,6 +83,10 @@ module _ (words : List Word) (granted : List ℕ) (pairs : List (ℕ × ℕ)) (m
     where
       idle_now : IsDurable (made_all es words) committed_word 0
       idle_now = durable_kept es words committed_word 0 word_inside (some committed_word (spares_journal words granted pairs may)) may.idle
+
+      taken : IsTaken granted pairs count left → IsThere granted pairs (made_all (redo_events after) after)
+      taken (inl some_left) = absurd (some_left (durable_crashed (made_all es words) left committed_word 0 leave (over es committed_word word_inside) idle_now).present)
+      taken (inr late) = past late
 
       crash : MayLeave (made_all es words) after
       crash = idle_crashes cuts (made_all es words) left after (over es committed_word word_inside) idle_now leave come
@@ -97,14 +103,15 @@ module _ (words : List Word) (granted : List ℕ) (pairs : List (ℕ × ℕ)) (m
           (cleared granted es words addr (present_at after addr) home.inside clears (some addr) (crash.value (addr / 8) (over es addr home.inside.inside)))
 
   -- once the pages are zeroed, the pairs go through the journal
-  storing : (count k : ℕ) (cuts : List ℕ) (left after : List Word) → MayLeave (made_all (take k (journal_events (in_order pairs))) mid) left → MayCome cuts left after
-      → (length (zero_events granted ++ stored_events pairs) ≤ count → IsThere granted pairs (made_all (redo_events after) after)) → Survives granted pairs words count after
-  storing count k cuts left after leave come at_end = record {
+  storing : (count k : ℕ) (cuts : List ℕ) (left after : List Word) → count ≡ length (zero_events granted) + k → MayLeave (made_all (take k (journal_events (in_order pairs))) mid) left → MayCome cuts left after
+      → (length (zero_events granted ++ stored_events pairs) ≤ count → IsThere granted pairs (made_all (redo_events after) after)) → Survives granted pairs words count left after
+  storing count k cuts left after is leave come at_end = record {
     readable = crash.0;
     whole_or_none = record {
       len = state.len ∙ len_mid;
       idle = state.idle;
-      either = which state.either;
+      whole = λ taken. done_all (state.all (told taken));
+      none = λ early. as_before (state.none (λ through. early (untold through)));
       others = λ addr home none. before addr home (state.others addr (home_mid addr home) (in_order_all (λ (p : ℕ × ℕ). p.0 ≢ addr) pairs none));
     };
     at_end = at_end;
@@ -116,10 +123,10 @@ module _ (words : List Word) (granted : List ℕ) (pairs : List (ℕ × ℕ)) (m
       can : journal.IsReady mid (in_order pairs)
       can = ready words granted pairs may
 
-      crash : IsReadable after × journal.IsAllOrNone (in_order pairs) mid new
+      crash : IsReadable after × journal.IsAllOrNone (in_order pairs) k left mid new
       crash = crash_anywhere mid (in_order pairs) k cuts left after can leave come
 
-      state : journal.IsAllOrNone (in_order pairs) mid new
+      state : journal.IsAllOrNone (in_order pairs) k left mid new
       state = crash.1
 
       home_mid : (addr : ℕ) → IsHome (length words) addr → IsHome (length mid) addr
@@ -144,29 +151,42 @@ module _ (words : List Word) (granted : List ℕ) (pairs : List (ℕ × ℕ)) (m
       in_place : (k : ℕ) (d : ℕ × ℕ) → k < length pairs → IsNamed (in_order pairs) (get_or pairs k d).0
       in_place k d lt = named_in_order pairs (get_or pairs k d).0 (named_at pairs k d lt)
 
-      which : All (λ (p : ℕ × ℕ). IsDurable new p.0 p.1) (in_order pairs) ⊎ All (λ (p : ℕ × ℕ). Contains (crash_list (word_at mid p.0)) (word_at new p.0).present) (in_order pairs)
-          → IsThere granted pairs new ⊎ All (λ (p : ℕ × ℕ). IsAsBefore granted words new p.0) pairs
-      which (inl done) = inl (record {
+      steps : length (zero_events granted ++ steps_to_stored (in_order pairs)) ≡ length zeros + length (steps_to_stored (in_order pairs))
+      steps = length-append zeros (steps_to_stored (in_order pairs))
+
+      told : IsTaken granted pairs count left → IsThrough (steps_to_stored (in_order pairs)) k left
+      told (inl some) = inl some
+      told (inr late) = inr (let s = steps in omega (arith, s, is, late))
+
+      untold : IsThrough (steps_to_stored (in_order pairs)) k left → IsTaken granted pairs count left
+      untold (inl some) = inl some
+      untold (inr late) = inr (let s = steps in omega (arith, s, is, late))
+
+      done_all : All (λ (p : ℕ × ℕ). IsDurable new p.0 p.1) (in_order pairs) → IsThere granted pairs new
+      done_all done = record {
         stored = λ k d lt. named (get_or pairs k d).0 (get_or pairs k d).1 done (in_place k d lt);
         zeroed = λ addr home given. zeroed done addr (subst (λ (n : ℕ). IsHome n addr) (state.len ∙ len_mid) home) given;
-      })
-      which (inr old) = inr (λ k d lt.
+      }
+
+      as_before : All (λ (p : ℕ × ℕ). Contains (crash_list (word_at mid p.0)) (word_at new p.0).present) (in_order pairs) → All (λ (p : ℕ × ℕ). IsAsBefore granted words new p.0) pairs
+      as_before old k d lt =
           let addr = (get_or pairs k d).0 in
           let (i, less, at) = named_place (in_order pairs) addr (in_place k d lt) in
-          before addr (may.homes k d lt) (subst (λ (a : ℕ). Contains (crash_list (word_at mid a)) (present_at new a)) at (old i (0, 0) less)))
+          before addr (may.homes k d lt) (subst (λ (a : ℕ). Contains (crash_list (word_at mid a)) (present_at new a)) at (old i (0, 0) less))
 
   survives : (count : ℕ) (cuts : List ℕ) (left after : List Word) → MayLeave (made_all (take count (zero_events granted ++ stored_events pairs)) words) left → MayCome cuts left after
-      → Survives granted pairs words count after
+      → Survives granted pairs words count left after
   survives count cuts left after leave come = by (cases_lt (length zeros) count)
     where
       at_end : length (zero_events granted ++ stored_events pairs) ≤ count → IsThere granted pairs (made_all (redo_events after) after)
       at_end le = whole cuts left after (subst (λ (es : List Inner). MayLeave (made_all es words) left) (take_all count (zero_events granted ++ stored_events pairs) le) leave) come
 
-      later : length zeros ≤ count → (listed : List (ℕ × ℕ)) → pairs ≡ listed → Survives granted pairs words count after
+      later : length zeros ≤ count → (listed : List (ℕ × ℕ)) → pairs ≡ listed → Survives granted pairs words count left after
       later le [] none =
           let same : take count (zero_events granted ++ stored_events pairs) ≡ zeros =
           ap (λ (ps : List (ℕ × ℕ)). take count (zeros ++ stored_events ps)) none ∙ ap (λ (es : List Inner). take count es) (append-nil zeros) ∙ take_all count zeros le in
-          zeroing count zeros cuts left after (zeros_clear granted) (λ addr all. all) (subst (λ (es : List Inner). MayLeave (made_all es words) left) same leave) come at_end
+          zeroing count zeros cuts left after (zeros_clear granted) (λ addr all. all) (subst (λ (es : List Inner). MayLeave (made_all es words) left) same leave) come
+          (λ late. at_end (let whole = ap (λ (ps : List (ℕ × ℕ)). length (zeros ++ stored_events ps)) none ∙ ap (λ (es : List Inner). length es) (append-nil zeros) in omega (arith, whole, le))) at_end
       later le (p ∷ ps) some =
           let stored : stored_events pairs ≡ journal_events (in_order pairs) =
           ap (λ (qs : List (ℕ × ℕ)). stored_events qs) some ∙ sym (ap (λ (qs : List (ℕ × ℕ)). journal_events (in_order qs)) some) in
@@ -175,13 +195,14 @@ module _ (words : List Word) (granted : List ℕ) (pairs : List (ℕ × ℕ)) (m
           take_past count zeros (stored_events pairs) le ∙ ap (λ (es : List Inner). zeros ++ take k es) stored in
           let run : made_all (take count (zero_events granted ++ stored_events pairs)) words ≡ made_all (take k (journal_events (in_order pairs))) mid =
           ap (λ (es : List Inner). made_all es words) same ∙ fold-append made words zeros (take k (journal_events (in_order pairs))) in
-          storing count k cuts left after (subst (λ (ws : List Word). MayLeave ws left) run leave) come at_end
+          storing count k cuts left after (omega (arith, le)) (subst (λ (ws : List Word). MayLeave ws left) run leave) come at_end
 
-      by : (length zeros < count) ⊎ (count ≤ length zeros) → Survives granted pairs words count after
+      by : (length zeros < count) ⊎ (count ≤ length zeros) → Survives granted pairs words count left after
       by (inl lt) = later (omega (arith, lt)) pairs refl
       by (inr le) =
           zeroing count (take count zeros) cuts left after (All-take Clears count zeros (zeros_clear granted)) (λ addr all. All-take (Spares addr) count zeros all)
-          (subst (λ (es : List Inner). MayLeave (made_all es words) left) (take-append-le count zeros (stored_events pairs) le) leave) come at_end
+          (subst (λ (es : List Inner). MayLeave (made_all es words) left) (take-append-le count zeros (stored_events pairs) le) leave) come
+          (λ late. let longer = length-append zeros (steps_to_stored (in_order pairs)) in absurd (omega (arith, longer, late, le))) at_end
 
 pub commits_survive : CommitCrashLaw
 commits_survive words granted pairs count cuts left after may = survives words granted pairs may count cuts left after

@@ -8,15 +8,15 @@ use Rattle.zo_layout.specs.Layout.{committed_word, page_at, word_of}
 use Rattle.pm_words.specs.Word.{Word, settled, stored, crash_list}
 use Rattle.pm_words.specs.Memory.{word_at, IsAddress}
 use Rattle.pm_words.specs.Crash.{MayLeave}
-use Rattle.tr_types.specs.declared.inner.Inner.{Inner}
-use Rattle.tr_types.specs.declared.inner.Inner.TheVariants.{Store, Flush, Fence}
-use Rattle.tr_types.specs.Inner.{made_all, finish_any, redo_events}
-use Rattle.tr_types.specs.JournalLaws.{IsDurable, MayCome}
-use Rattle.tr_types.specs.KernelCalls.{zeros_of, lines_of_page, zero_events}
-use Rattle.tr_types.proofs.WordSteps.{come, run_at, Spares, run_spared, within_shortened}
-use Rattle.tr_types.proofs.PhaseLemmas.{kept_by, one_value}
-use Rattle.tr_types.proofs.GivenSteps.{zeroes_spare}
-use Rattle.tr_types.proofs.CutLemmas.{durable_crashed, none_committed}
+use Rattle.kern_model.specs.declared.inner.Inner.{Inner}
+use Rattle.kern_model.specs.declared.inner.Inner.TheVariants.{Store, Flush, Fence}
+use Rattle.kern_model.specs.Inner.{made_all, finish_any, redo_events}
+use Rattle.kern_model.specs.JournalLaws.{IsDurable, MayCome}
+use Rattle.kern_model.specs.KernelCalls.{zeros_of, lines_of_page, zero_events}
+use Rattle.kern_model.proofs.WordSteps.{come, run_at, Spares, run_spared, within_shortened}
+use Rattle.kern_model.proofs.PhaseLemmas.{kept_by, one_value}
+use Rattle.kern_model.proofs.GivenSteps.{zeroes_spare}
+use Rattle.kern_model.proofs.CutLemmas.{durable_crashed, none_committed}
 
 -- Each step stores 0, or stores nothing.
 

@@ -8,11 +8,11 @@ use Rattle.std.proofs.lemmas.List.FromFn.{map-range_with_len_more}
 use Rattle.std.proofs.lemmas.List.Sums.{fold-append}
 use Rattle.pm_words.specs.Word.{Word}
 use Rattle.zo_layout.specs.Layout.{page_at, word_of}
-use Rattle.tr_types.specs.declared.inner.Inner.{Inner}
-use Rattle.tr_types.specs.declared.inner.Inner.TheVariants.{Store, Flush, Fence}
-use Rattle.tr_types.specs.Inner.{made, made_all, IsCut}
-use Rattle.tr_types.specs.KernelCalls.{zero_events}
-use Rattle.tr_types.proofs.PhaseLemmas.{take_past}
+use Rattle.kern_model.specs.declared.inner.Inner.{Inner}
+use Rattle.kern_model.specs.declared.inner.Inner.TheVariants.{Store, Flush, Fence}
+use Rattle.kern_model.specs.Inner.{made, made_all, IsCut}
+use Rattle.kern_model.specs.KernelCalls.{zero_events}
+use Rattle.kern_model.proofs.PhaseLemmas.{take_past}
 use Rattle.kern_commit.specs.Pages.{page_zeros, page_flushes}
 
 pub cut_before : (a b : List Inner) (old new : List Word) → IsCut a old new → IsCut (a ++ b) old new

@@ -7,11 +7,11 @@ use Rattle.zo_layout.specs.Layout.{committed_word, owner_table}
 use Rattle.pm_words.specs.Word.{Word, settled}
 use Rattle.pm_words.specs.Memory.{all_durable, store_at}
 use Rattle.pm_words.proofs.WordLemmas.{word_at_all_durable}
-use Rattle.tr_types.specs.NewImage.{new_image, new_word}
-use Rattle.tr_types.specs.declared.inner.Inner.TheVariants.{Store}
-use Rattle.tr_types.specs.JournalLaws.{IsDurable}
-use Rattle.tr_types.proofs.WordSteps.{Spares}
-use Rattle.tr_types.proofs.PhaseLemmas.{durable_kept}
+use Rattle.kern_model.specs.NewImage.{new_image, new_word}
+use Rattle.kern_model.specs.declared.inner.Inner.TheVariants.{Store}
+use Rattle.kern_model.specs.JournalLaws.{IsDurable}
+use Rattle.kern_model.proofs.WordSteps.{Spares}
+use Rattle.kern_model.proofs.PhaseLemmas.{durable_kept}
 
 pub idle_new : (words : List Word) (pages : ℕ) → 64 ≤ pages → words ≡ all_durable (new_image pages) → IsDurable words committed_word 0
 idle_new words pages least is = subst (λ (ws : List Word). IsDurable ws committed_word 0) (sym is) (record { present = ap (λ (w : Word). w.present) at ∙ none; older = ap (λ (w : Word). w.older) at })

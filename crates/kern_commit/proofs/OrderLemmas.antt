@@ -9,11 +9,11 @@ use Rattle.std.proofs.lemmas.Bool.{cases_eq, cases_lt, cond_both, lt-ltb, le-ltb
 use Rattle.std.proofs.lemmas.List.{take_more}
 use Rattle.std.proofs.lemmas.List.Elements.{All-nil, All-cons, All-head, All-tail}
 use Rattle.std.proofs.lemmas.List.Sums.{fold-append}
-use Rattle.tr_types.specs.Inner.{laid_over}
-use Rattle.tr_types.specs.JournalLaws.{IsUnnamed}
-use Rattle.tr_types.specs.KernelCalls.{put_pair, in_order}
-use Rattle.tr_types.proofs.LaidLemmas.{IsNamed, named_cases, laid_unnamed, laid_named}
-use Rattle.tr_types.proofs.GivenSteps.{Rises}
+use Rattle.kern_model.specs.Inner.{laid_over}
+use Rattle.kern_model.specs.JournalLaws.{IsUnnamed}
+use Rattle.kern_model.specs.KernelCalls.{put_pair, in_order}
+use Rattle.kern_model.proofs.LaidLemmas.{IsNamed, named_cases, laid_unnamed, laid_named}
+use Rattle.kern_model.proofs.GivenSteps.{Rises}
 
 -- a map in order of address takes a pair in the same way
 insert_is : (es : List (ℕ × ℕ)) (p : ℕ × ℕ) → insert_entry nat_cmp es p.0 p.1 ≡ put_pair es p

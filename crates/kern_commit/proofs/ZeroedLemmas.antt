@@ -10,14 +10,14 @@ use Rattle.std.proofs.lemmas.Simd.{map-map}
 use Rattle.zo_layout.specs.Layout.{page_at, word_of}
 use Rattle.pm_words.specs.Word.{Word}
 use Rattle.pm_words.specs.Memory.{word_at}
-use Rattle.tr_types.specs.Denotes.{value}
-use Rattle.tr_types.specs.declared.inner.Inner.{Inner}
-use Rattle.tr_types.specs.declared.inner.Inner.TheVariants.{Flush, Fence}
-use Rattle.tr_types.specs.Inner.{made_all, flushes_at}
-use Rattle.tr_types.specs.JournalLaws.{IsDurable}
-use Rattle.tr_types.specs.KernelCalls.{zero_events}
-use Rattle.tr_types.proofs.WordSteps.{come, run_at, HasLine, flushed_durable}
-use Rattle.tr_types.proofs.GivenSteps.{zeroed}
+use Rattle.kern_model.specs.KernelView.{value}
+use Rattle.kern_model.specs.declared.inner.Inner.{Inner}
+use Rattle.kern_model.specs.declared.inner.Inner.TheVariants.{Flush, Fence}
+use Rattle.kern_model.specs.Inner.{made_all, flushes_at}
+use Rattle.kern_model.specs.JournalLaws.{IsDurable}
+use Rattle.kern_model.specs.KernelCalls.{zero_events}
+use Rattle.kern_model.proofs.WordSteps.{come, run_at, HasLine, flushed_durable}
+use Rattle.kern_model.proofs.GivenSteps.{zeroed}
 use Rattle.kern_commit.specs.Pages.{page_zeros, page_flushes}
 use Rattle.kern_commit.proofs.CutLemmas.{some_zeroed}
 

@@ -4,11 +4,11 @@ use Rattle.zo_layout.specs.Layout.{committed_word}
 use Rattle.pm_words.specs.Word.{Word, crash_list}
 use Rattle.pm_words.specs.Memory.{word_at}
 use Rattle.pm_words.specs.Crash.{MayLeave}
-use Rattle.tr_types.specs.Journal.{IsHome, IsReadable, laid_over}
-use Rattle.tr_types.specs.Inner.{made_all, redo_events}
-use Rattle.tr_types.specs.JournalLaws.{IsDurable, IsUnnamed, Keeps, MayCome}
-use Rattle.tr_types.specs.KernelCalls.{zero_events, stored_events}
-use Rattle.tr_types.specs.Commits.{MayCommit, present_at}
+use Rattle.kern_model.specs.Journal.{IsHome, IsReadable, laid_over}
+use Rattle.kern_model.specs.Inner.{made_all, redo_events}
+use Rattle.kern_model.specs.JournalLaws.{IsDurable, IsUnnamed, Keeps, MayCome, steps_to_stored, IsThrough}
+use Rattle.kern_model.specs.KernelCalls.{in_order, zero_events, stored_events}
+use Rattle.kern_model.specs.Commits.{MayCommit, present_at}
 
 -- The whole is there: each pair is durable, and the pages are zeroed, but for what a pair stores in them.
 pub record IsThere (granted : List ℕ) (pairs : List (ℕ × ℕ)) (new : List Word) : Type 0 where
@@ -19,25 +19,31 @@ pub record IsThere (granted : List ℕ) (pairs : List (ℕ × ℕ)) (new : List 
 abbrev pub IsAsBefore : List ℕ → List Word → List Word → ℕ → Type 0
 IsAsBefore granted old new addr = Contains (crash_list (word_at old addr)) (present_at new addr) ⊎ (Contains granted (addr / 4096) × (present_at new addr ≡ 0))
 
--- The whole is there, or each word that a pair names is as before. Every other word outside the journal is as before, and nothing is
--- committed.
-pub record IsWholeOrNone (granted : List ℕ) (pairs : List (ℕ × ℕ)) (old new : List Word) : Type 0 where
+-- The crash came too late to undo the commit, of whose steps `count` were made: it leaves word 0 of the journal other than 0, or all steps
+-- but those that store 0 there again were made.
+abbrev pub IsTaken : List ℕ → List (ℕ × ℕ) → ℕ → List Word → Type 0
+IsTaken granted pairs count left = IsThrough (zero_events granted ++ steps_to_stored (in_order pairs)) count left
+
+-- The whole is there where the crash came too late, else each word that a pair names is as before. Every other word outside the journal is as
+-- before, and nothing is committed.
+pub record IsWholeOrNone (granted : List ℕ) (pairs : List (ℕ × ℕ)) (count : ℕ) (left old new : List Word) : Type 0 where
   pub len : length new ≡ length old
   pub idle : IsDurable new committed_word 0
-  pub either : IsThere granted pairs new ⊎ All (λ p. IsAsBefore granted old new p.0) pairs
+  pub whole : IsTaken granted pairs count left → IsThere granted pairs new
+  pub none : (IsTaken granted pairs count left → ⊥) → All (λ p. IsAsBefore granted old new p.0) pairs
   pub others : (addr : ℕ) → IsHome (length old) addr → IsUnnamed pairs addr → IsAsBefore granted old new addr
 
 -- A crash when some number of a commit's events are made, then any number of crashes inside of `redo`: what is left can be finished, and
--- a whole `redo` gives the whole or none; and the whole, where all events were made.
-pub record Survives (granted : List ℕ) (pairs : List (ℕ × ℕ)) (old : List Word) (count : ℕ) (after : List Word) : Type 0 where
+-- a whole `redo` gives the whole or none, as the first crash left word 0 of the journal; and the whole, where all events were made.
+pub record Survives (granted : List ℕ) (pairs : List (ℕ × ℕ)) (old : List Word) (count : ℕ) (left after : List Word) : Type 0 where
   pub readable : IsReadable after
-  pub whole_or_none : IsWholeOrNone granted pairs old (made_all (redo_events after) after)
+  pub whole_or_none : IsWholeOrNone granted pairs count left old (made_all (redo_events after) after)
   pub at_end : length (zero_events granted ++ stored_events pairs) ≤ count → IsThere granted pairs (made_all (redo_events after) after)
 
 abbrev pub CommitCrashLaw : Type 0
 CommitCrashLaw =
     (words : List Word) (granted : List ℕ) (pairs : List (ℕ × ℕ)) (count : ℕ) (cuts : List ℕ) (left after : List Word) → MayCommit words granted pairs
-    → MayLeave (made_all (take count (zero_events granted ++ stored_events pairs)) words) left → MayCome cuts left after → Survives granted pairs words count after
+    → MayLeave (made_all (take count (zero_events granted ++ stored_events pairs)) words) left → MayCome cuts left after → Survives granted pairs words count left after
 
 -- A whole commit leaves every other word outside the journal its value, and a crash leaves nothing there that it mightn't have left before.
 abbrev pub OthersLaw : Type 0

@@ -1,5 +1,5 @@
 // Laws of the definitions alone: functions that do nothing, for what they ensure.
-ghost use Rattle.tr_types.specs.Commits.{CommitLaw};
+ghost use Rattle.kern_model.specs.Commits.{CommitLaw};
 ghost use Rattle.kern_commit.specs.Crashes.{CommitCrashLaw, OthersLaw};
 
 /// What a commit leaves: the given pages are zeroed, each pair is stored, all that is durable, and every

@@ -3,17 +3,17 @@ ghost use Rattle.std.specs.Prelude.{◌≡◌, ◌<◌, ◌≤◌, ◌^◌, ◌+
 ghost use Rattle.std.specs.List.{flat_map};
 ghost use Rattle.zo_layout.specs.Layout.{pair_capacity};
 ghost use Rattle.pm_words.specs.Memory.{IsAddress};
-ghost use Rattle.tr_types.specs.KernelView.{pages_of};
-ghost use Rattle.tr_types.specs.Inner.{made_all, IsCut};
-ghost use Rattle.tr_types.specs.KernelCalls.{in_order, zero_events, stored_events};
-ghost use Rattle.tr_types.specs.Commits.{MayCommit};
+ghost use Rattle.kern_model.specs.KernelView.{pages_of};
+ghost use Rattle.kern_model.specs.Inner.{made_all, IsCut};
+ghost use Rattle.kern_model.specs.KernelCalls.{in_order, zero_events, stored_events};
+ghost use Rattle.kern_model.specs.Commits.{MayCommit};
 ghost use Rattle.kern_commit.specs.Pages.{page_zeros, page_flushes};
 
-use kern_journal::{JournalFault, apply, journal_events, make_all};
+use kern_journal::{JournalFault, apply, journal_events, make, make_all};
+use kern_model::Inner;
 use pm_words::{NoMemory, Words};
 use std::alloc::{AllocError, Global};
 use std::collections::BTreeMap;
-use tr_types::Inner;
 use zo_layout::{PAGE_WORDS, page_at, word_of};
 
 /// Lines of a page.
@@ -100,7 +100,7 @@ fn zero_page(words: &mut Words, page: u32) -> Result<(), NoMemory>
 {
     for i in 0..PAGE_WORDS {
         let addr = word_of(page_at(page), i);
-        make_all(words, &[Inner::Store { addr, value: 0 }])?;
+        make(words, Inner::Store { addr, value: 0 })?;
     }
     Ok(())
 }
@@ -113,7 +113,7 @@ fn flush_page(words: &mut Words, page: u32) -> Result<(), NoMemory>
 {
     for i in 0..PAGE_LINES {
         let addr = page_at(page) + LINE_BYTES * i;
-        make_all(words, &[Inner::Flush { addr }])?;
+        make(words, Inner::Flush { addr })?;
     }
     Ok(())
 }

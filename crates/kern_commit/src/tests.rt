@@ -1,7 +1,7 @@
 // Pages that come zeroed, and pairs that go through the journal.
 ghost use Rattle.std.specs.Prelude.{◌≡◌, length, IfOk};
 ghost use Rattle.zo_layout.specs.Layout.{committed_word};
-ghost use Rattle.tr_types.specs.JournalLaws.{IsDurable};
+ghost use Rattle.kern_model.specs.JournalLaws.{IsDurable};
 
 use crate::{commit, count_events};
 use kern_journal::new_image;

@@ -2,7 +2,7 @@
 use Rattle.std.proofs.Common.{◌≡◌, ◌<◌, ℕ, ◌+◌, ◌*◌, ◌/◌, ◌%◌, [], ◌∷◌, ◌++◌, map, ap, ap₂, ◌∙◌, arith}
 use Rattle.std.specs.List.{range_with_len}
 use Rattle.std.proofs.lemmas.List.FromFn.{map-range_with_len_more}
-use Rattle.tr_types.specs.NewImage.{new_word, word_in_page}
+use Rattle.kern_model.specs.NewImage.{new_word, word_in_page}
 
 -- word i of a page stands 512 words behind that of the page before
 new_word_at : (pages page i : ℕ) → i < 512 → new_word pages (512 * page + i) ≡ word_in_page pages page i

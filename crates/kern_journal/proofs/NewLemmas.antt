@@ -9,11 +9,11 @@ use Rattle.pm_words.specs.Word.{Word, settled}
 use Rattle.std.proofs.lemmas.Map.Keys.{IsDistinct-cons}
 use Rattle.pm_words.specs.Memory.{all_durable, IsPages, HasPages}
 use Rattle.pm_words.proofs.WordLemmas.{word_at_all_durable, has_pages}
-use Rattle.tr_types.specs.NewImage.{new_image, new_word}
-use Rattle.tr_types.proofs.FreePages.{size_opened}
-use Rattle.tr_types.specs.Inner.{IsHome, IsReadable}
-use Rattle.tr_types.specs.JournalLaws.{IsDurable, IsReady}
-use Rattle.tr_types.proofs.CrashLemmas.{idle_readable}
+use Rattle.kern_model.specs.NewImage.{new_image, new_word}
+use Rattle.kern_model.proofs.FreePages.{size_opened}
+use Rattle.kern_model.specs.Inner.{IsHome, IsReadable}
+use Rattle.kern_model.specs.JournalLaws.{IsDurable, IsReady}
+use Rattle.kern_model.proofs.CrashLemmas.{idle_readable}
 
 journal_page : (pages : ℕ) → new_word pages 512 ≡ 0
 journal_page pages = cond-true (nat_lt 1 (owner_table pages)) 0 _ (lt-ltb 1 (owner_table pages) (omega arith))

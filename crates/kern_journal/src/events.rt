@@ -1,11 +1,11 @@
 // The journal's steps, as lists.
 ghost use Rattle.std.specs.Prelude.{◌≡◌, ◌≤◌, ◌++◌, length, IfOk, OnOk, ◌<◌, ◌^◌};
-ghost use Rattle.tr_types.specs.Inner.{phase, stores_of, flushes_at};
-ghost use Rattle.tr_types.specs.Inner as spec;
+ghost use Rattle.kern_model.specs.Inner.{phase, stores_of, flushes_at};
+ghost use Rattle.kern_model.specs.Inner as spec;
 
 use crate::lines::lines_of;
+use kern_model::Inner;
 use std::alloc::{AllocError, Global};
-use tr_types::Inner;
 use zo_layout::{committed_word, pair_address, pair_value};
 
 /// The steps that make a list of pairs durable: first in the journal, then the pairs' number there,

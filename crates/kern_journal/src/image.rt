@@ -1,8 +1,10 @@
 // The image of a new file system: the kernel's tables and an empty root coffer.
 ghost use Rattle.std.specs.Prelude.{◌≡◌, ◌*◌, ◌<◌, ◌≤◌, length, IfOk};
 ghost use Rattle.pm_words.specs.Memory.{all_durable};
-ghost use Rattle.tr_types.specs.NewImage as spec;
+ghost use Rattle.kern_model.specs.NewImage as spec;
+ghost use Rattle.kern_model.specs.Commits.{AreDurable, HasSteadyTables};
 
+use kern_model::{TREASURY, VERSION};
 use pm_words::{Image, NoMemory, Words};
 use std::alloc::Global;
 use std::marker::Model;
@@ -10,20 +12,11 @@ use std::marker::Model;
 /// Words of a page.
 const PAGE_WORDS: u32 = zo_layout::PAGE_WORDS as u32;
 
-/// The first word of an image: the bytes `TREASURY`, the first one lowest.
-const SIGNATURE: u64 = 0x5952555341455254;
+const KERNEL: u64 = kern_model::KERNEL as u64;
 
-/// The version of the format.
-const VERSION: u64 = 1;
+const ROOT_COFFER: u64 = kern_model::ROOT_COFFER as u64;
 
-/// What the owner table says of the kernel's pages.
-const KERNEL: u64 = 65535;
-
-/// The number of the root coffer, whose path is `/`.
-const ROOT_COFFER: u64 = 1;
-
-/// The mode that the root coffer begins with.
-const ROOT_MODE: u64 = 0o666;
+const ROOT_MODE: u64 = kern_model::ROOT_MODE as u64;
 
 /// A coffer that stands, in the coffer table.
 const STANDING: u64 = 1;
@@ -94,7 +87,7 @@ impl Tables {
         ensures { result ≡ spec.superblock_word self.now i }
     {
         match i {
-            0 => SIGNATURE,
+            0 => TREASURY,
             1 => VERSION,
             2 => u64::from(self.pages),
             _ => 0,
@@ -139,12 +132,15 @@ fn bucket_word(i: u32) -> u64
     if i == ROOT_BUCKET { ROOT_COFFER } else { 0 }
 }
 
-/// The words of a new image of 64 to 16,384 pages, all durable.
+/// The words of a new image of 64 to 16,384 pages, all durable, so that a crash can change nothing of the
+/// kernel's pages.
 pub fn new_image(alloc: Global, pages: u32) -> Result<Words, NoMemory>
     requires least { 64 ≤ pages }
     requires most { pages ≤ 16384 }
     ensures words { IfOk result (λ words. words ≡ all_durable (spec.new_image pages)) }
     ensures len { IfOk result (λ words. length words ≡ 512 * pages) }
+    ensures durable { IfOk result (λ words. AreDurable words) }
+    ensures steady { IfOk result (λ words. HasSteadyTables words) }
 {
     let words = image_words(alloc, pages)?;
     Words::of_image(alloc, Image::new(words))

@@ -1,16 +1,13 @@
 // Making the kernel's single steps.
 ghost use Rattle.std.specs.Prelude.{◌≡◌, ℕ, length, All, OnOk, OnErr};
 ghost use Rattle.pm_words.specs.Memory.{IsAddress};
-ghost use Rattle.tr_types.specs.Inner.{made, made_all, IsCut, HasAddress};
+ghost use Rattle.kern_model.specs.Inner.{made, made_all, IsCut, HasAddress};
 
+use kern_model::{Inner, NO_THREAD};
 use pm_words::{NoMemory, Words};
-use tr_types::Inner;
 
-/// The number under which the kernel flushes and fences. It is no thread's.
-const KERNEL_THREAD: u16 = 256;
-
-// Makes the step. An error leaves the memory as it was.
-fn make(words: &mut Words, event: Inner) -> Result<(), NoMemory>
+/// Makes the step. An error leaves the memory as it was.
+pub fn make(words: &mut Words, event: Inner) -> Result<(), NoMemory>
     requires { HasAddress (length words.old) event }
     ensures ok { OnOk result (words.new ≡ made words.old event) }
     ensures err { OnErr result (words.new ≡ words.old) }
@@ -18,9 +15,9 @@ fn make(words: &mut Words, event: Inner) -> Result<(), NoMemory>
 {
     match event {
         Inner::Store { addr, value } => words.store(addr, value),
-        Inner::Flush { addr } => words.flush(KERNEL_THREAD, addr),
+        Inner::Flush { addr } => words.flush(NO_THREAD, addr),
         Inner::Fence => {
-            words.fence(KERNEL_THREAD);
+            words.fence(NO_THREAD);
             Ok(())
         }
     }

@@ -3,16 +3,16 @@ ghost use Rattle.std.specs.Prelude.{◌≡◌, ◌<◌, ◌≤◌, ◌↔◌, le
 ghost use Rattle.std.specs.Result.{IsErrOf};
 ghost use Rattle.zo_layout.specs.Layout as layout;
 ghost use Rattle.pm_words.specs.Memory.{IsAddress, HasPages};
-ghost use Rattle.tr_types.specs.KernelView.{pages_of};
-ghost use Rattle.tr_types.specs.Inner.{made_all, IsCut, HasAddress};
-ghost use Rattle.tr_types.specs.Inner as spec;
+ghost use Rattle.kern_model.specs.KernelView.{pages_of};
+ghost use Rattle.kern_model.specs.Inner.{made_all, IsCut, HasAddress};
+ghost use Rattle.kern_model.specs.Inner as spec;
 
 use crate::events::{finish_any, journal_events};
 use crate::inner::make_all;
+use kern_model::Inner;
 use pm_words::{NoMemory, Words};
 use std::alloc::Global;
 use thiserror::Error;
-use tr_types::Inner;
 use zo_layout::{committed_word, pair_address, pair_value};
 
 /// Why a list of words wasn't stored.

@@ -1,5 +1,5 @@
 // Laws of the definitions alone: functions that do nothing, for what they ensure.
-ghost use Rattle.tr_types.specs.JournalLaws.{ApplyLaw, CrashLaw, CutLaw, ViewLaw, IdleLaw};
+ghost use Rattle.kern_model.specs.JournalLaws.{ApplyLaw, CrashLaw, CutLaw, ViewLaw, IdleLaw};
 
 /// After all events of `apply`, on pairs for different words outside the journal, with nothing
 /// committed: each pair is durable, nothing is committed, and every other word outside the journal

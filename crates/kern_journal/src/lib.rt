@@ -15,7 +15,7 @@ mod lines;
 
 pub use events::journal_events;
 pub use image::new_image;
-pub use inner::make_all;
+pub use inner::{make, make_all};
 pub use journal::{
     JournalFault, apply, apply_first, capacity, committed, committed_count, kernel_word, redo,
 };

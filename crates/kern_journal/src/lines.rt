@@ -1,6 +1,6 @@
 // The lines that a list of pairs is flushed by.
 ghost use Rattle.std.specs.Prelude.{◌≡◌, ◌<◌, IfOk, OnOk};
-ghost use Rattle.tr_types.specs.Inner.{line_of, with_line, lines_of, IsAscending};
+ghost use Rattle.kern_model.specs.Inner.{line_of, with_line, lines_of, IsAscending};
 
 use std::alloc::{AllocError, Global};
 

@@ -1,8 +1,8 @@
 // Lists of words that are stored all or not at all.
 ghost use Rattle.std.specs.Prelude.{◌≡◌, [], ◌∷◌, length, All, IfOk, OnOk};
 ghost use Rattle.pm_words.specs.Memory.{IsAddress};
-ghost use Rattle.tr_types.specs.Inner.{IsReadable};
-ghost use Rattle.tr_types.specs.JournalLaws.{IsReady};
+ghost use Rattle.kern_model.specs.Inner.{IsReadable};
+ghost use Rattle.kern_model.specs.JournalLaws.{IsReady};
 
 use crate::{
     JournalFault, apply, apply_first, capacity, committed_count, kernel_word, new_image, redo,

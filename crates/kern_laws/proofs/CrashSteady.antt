@@ -6,35 +6,31 @@ use Rattle.zo_layout.specs.Layout.{kernel_pages}
 use Rattle.pm_words.specs.Word.{Word}
 use Rattle.pm_words.specs.Memory.{word_at, HasPages}
 use Rattle.pm_words.specs.Crash.{MayLeave}
-use Rattle.tr_types.specs.KernelView.{pages_of}
-use Rattle.tr_types.specs.Journal.{IsHome, IsReadable, committed}
-use Rattle.tr_types.specs.Inner.{made_all, redo_events}
-use Rattle.tr_types.specs.JournalLaws.{IsUnnamed, IsFinished, MayCome}
-use Rattle.tr_types.specs.KernelCalls.{Row, row_events}
-use Rattle.tr_types.specs.Commits.{IsOuter, IsCommitted, CommitLaw, present_at}
-use Rattle.tr_types.proofs.WordSteps.{length_run}
-use Rattle.tr_types.proofs.LaidLemmas.{IsNamed, named_cases}
-use Rattle.tr_types.proofs.PhaseLemmas.{one_value}
-use Rattle.tr_types.proofs.FinishLemmas.{finished}
+use Rattle.kern_model.specs.KernelView.{pages_of}
+use Rattle.kern_model.specs.Journal.{IsHome, IsReadable, committed}
+use Rattle.kern_model.specs.Inner.{made_all, redo_events}
+use Rattle.kern_model.specs.JournalLaws.{IsUnnamed, IsFinished, MayCome}
+use Rattle.kern_model.specs.KernelCalls.{Row, row_events}
+use Rattle.kern_model.specs.Commits.{IsOuter, IsCommitted, CommitLaw, present_at, HasSteadyTables, AreDurable}
+use Rattle.kern_model.proofs.WordSteps.{length_run}
+use Rattle.kern_model.proofs.LaidLemmas.{IsNamed, named_cases}
+use Rattle.kern_model.proofs.PhaseLemmas.{one_value}
+use Rattle.kern_model.proofs.FinishLemmas.{finished}
 use Rattle.kern_commit.specs.Crashes.{Survives, OthersLaw}
 use Rattle.kern_laws.specs.Rows.{KeepsTables}
-use Rattle.kern_laws.specs.Crashes.{HasSteadyTables}
 use Rattle.kern_laws.proofs.CrashTables.{named_has}
 
 -- after crashes each word is durable
 
-abbrev AllDurable : List Word → Type 0
-AllDurable words = (addr : ℕ) → addr / 8 < length words → (word_at words addr).older ≡ []
-
-one_crash : (words after : List Word) → MayLeave words after → AllDurable after
+one_crash : (words after : List Word) → MayLeave words after → AreDurable after
 one_crash words after leave addr lt = let len = leave.len in ap (λ (w : Word). w.older) (leave.durable (addr / 8) (omega (arith, len, lt)))
 
-crashes : (cuts : List ℕ) (words left after : List Word) → MayLeave words left → MayCome cuts left after → AllDurable after
-crashes [] words left after leave same = subst (λ (ws : List Word). AllDurable ws) (sym same) (one_crash words left leave)
+crashes : (cuts : List ℕ) (words left after : List Word) → MayLeave words left → MayCome cuts left after → AreDurable after
+crashes [] words left after leave same = subst (λ (ws : List Word). AreDurable ws) (sym same) (one_crash words left leave)
 crashes (k ∷ ks) words left after leave (mid, cut, rest) = crashes ks (made_all (take k (redo_events left)) left) mid after cut rest
 
-mounted : (after : List Word) → HasPages (length after) → IsReadable after → AllDurable after → HasSteadyTables (made_all (redo_events after) after)
-mounted after size readable durable addr home low value there = by (named_cases (committed after) addr)
+pub steady_finished : (after : List Word) → HasPages (length after) → IsReadable after → AreDurable after → HasSteadyTables (made_all (redo_events after) after)
+steady_finished after size readable durable addr home low value there = by (named_cases (committed after) addr)
   where
     new : List Word
     new = made_all (redo_events after) after
@@ -54,9 +50,9 @@ mounted after size readable durable addr home low value there = by (named_cases 
         one_value (word_at new addr).older (word_at new addr).present value older there
 
 pub steady_mounted : (words : List Word) (granted : List ℕ) (pairs : List (ℕ × ℕ)) (count : ℕ) (cuts : List ℕ) (before left after : List Word) → HasPages (length words) → MayLeave before left → MayCome cuts left after
-    → Survives granted pairs words count after → HasSteadyTables (made_all (redo_events after) after)
+    → Survives granted pairs words count left after → HasSteadyTables (made_all (redo_events after) after)
 steady_mounted words granted pairs count cuts before left after size leave come survives =
-    mounted after (subst HasPages (sym survives.whole_or_none.len ∙ length_run (redo_events after) after) size) survives.readable (crashes cuts before left after leave come)
+    steady_finished after (subst HasPages (sym survives.whole_or_none.len ∙ length_run (redo_events after) after) size) survives.readable (crashes cuts before left after leave come)
 
 pub steady_after : OthersLaw → CommitLaw → (words : List Word) (row : Row) → KeepsTables words row → HasSteadyTables words → HasSteadyTables (made_all (row_events row) words)
 steady_after others commits words row k steady addr home low value there = by (named_cases row.pairs addr)

@@ -1,25 +1,26 @@
 -- What the kernel reads of its pages after a crash inside of a call.
-use Rattle.std.proofs.Common.{◌≡◌, ◌≢◌, ◌⊎◌, inl, inr, ℕ, ◌/◌, ◌%◌, ◌<◌, ◌≤◌, true, List, [], ◌∷◌, length, get_or, nat_eq, refl, sym, ap, subst, ◌∙◌, arith, eqb-true}
+use Rattle.std.proofs.Common.{◌≡◌, ◌≢◌, ◌⊎◌, inl, inr, ℕ, ◌/◌, ◌%◌, ◌<◌, ◌≤◌, true, List, [], ◌∷◌, ◌++◌, length, get_or, nat_eq, refl, sym, ap, subst, ◌∙◌, arith, eqb-true}
 use Rattle.std.specs.Prelude.{All}
 use Rattle.std.specs.List.{list_any}
-use Rattle.std.proofs.lemmas.Bool.{or_cases, false≢true}
+use Rattle.std.proofs.lemmas.Bool.{or_cases, false≢true, cases_eq, cases_lt}
 use Rattle.std.proofs.lemmas.List.Elements.{All-nil, All-head, All-tail, All-weaker, All-contains}
-use Rattle.zo_layout.specs.Layout.{page_at, kernel_pages, owner_table, signature_word, version_word, count_word}
+use Rattle.zo_layout.specs.Layout.{page_at, kernel_pages, owner_table, signature_word, version_word, count_word, committed_word}
 use Rattle.pm_words.specs.Word.{Word}
-use Rattle.tr_types.specs.KernelView.{pages_of}
-use Rattle.tr_types.specs.Journal.{IsHome, laid_over, kernel_word}
-use Rattle.tr_types.specs.Kernel.{read_after}
-use Rattle.tr_types.specs.KernelTables.{is_id, stands_in}
-use Rattle.tr_types.specs.JournalLaws.{IsDurable, IsUnnamed}
-use Rattle.tr_types.specs.KernelCalls.{Row}
-use Rattle.tr_types.specs.Commits.{present_at, IsOuter, IsWorking}
+use Rattle.pm_words.specs.Memory.{word_at}
+use Rattle.kern_model.specs.KernelView.{pages_of}
+use Rattle.kern_model.specs.Journal.{IsHome, laid_over, kernel_word}
+use Rattle.kern_model.specs.Kernel.{read_after}
+use Rattle.kern_model.specs.KernelTables.{is_id, stands_in}
+use Rattle.kern_model.specs.JournalLaws.{IsDurable, IsUnnamed, steps_to_stored}
+use Rattle.kern_model.specs.KernelCalls.{Row, in_order, zero_events}
+use Rattle.kern_model.specs.Commits.{present_at, IsOuter, IsWorking, HasSteadyTables}
 use Rattle.tr_types.specs.declared.kernel_call.Holder.{Holder}
-use Rattle.tr_types.proofs.LaidLemmas.{IsNamed, named_at, named_cases, laid_unnamed, laid_named}
-use Rattle.tr_types.proofs.FinishLemmas.{idle_read}
+use Rattle.kern_model.proofs.LaidLemmas.{IsNamed, named_at, named_cases, laid_unnamed, laid_named}
+use Rattle.kern_model.proofs.FinishLemmas.{idle_read}
 use Rattle.kern_owner.specs.Laws.{SameTables, TablesPass}
-use Rattle.kern_commit.specs.Crashes.{IsAsBefore, IsThere, IsWholeOrNone}
+use Rattle.kern_commit.specs.Crashes.{IsAsBefore, IsThere, IsTaken, IsWholeOrNone}
 use Rattle.kern_laws.specs.Rows.{KeepsTables}
-use Rattle.kern_laws.specs.Crashes.{HasSteadyTables, ReadsTables, KernelSurvives}
+use Rattle.kern_laws.specs.Crashes.{ReadsTables, KernelSurvives}
 use Rattle.kern_laws.proofs.TablesLemmas.{tables_same, tables_of}
 use Rattle.kern_laws.proofs.FrameLemmas.{SameFront, works}
 
@@ -32,7 +33,7 @@ named_has P (p ∷ pairs) addr named all = by (or_cases (nat_eq p.0 addr) (list_
     by (inl own) rest = subst P (eqb-true p.0 addr own) (All-head (λ (q : ℕ × ℕ). P q.0) p pairs all)
     by (inr more) rest = rest more
 
-module _ (words : List Word) (holders : List Holder) (row : Row) (w : IsWorking words holders) (k : KeepsTables words row) (steady : HasSteadyTables words) (new : List Word) (s : IsWholeOrNone row.granted row.pairs words new) (still : HasSteadyTables new) where
+module _ (words : List Word) (holders : List Holder) (row : Row) (w : IsWorking words holders) (k : KeepsTables words row) (steady : HasSteadyTables words) (count : ℕ) (left new : List Word) (s : IsWholeOrNone row.granted row.pairs count left words new) (still : HasSteadyTables new) where
   -- a word of the kernel's pages that is as before has the value that it had
   was : (addr : ℕ) → IsHome (length words) addr → addr / 4096 < kernel_pages (pages_of words) → IsAsBefore row.granted words new addr → present_at new addr ≡ present_at words addr
   was addr home low (inl there) = steady addr home low (present_at new addr) there
@@ -103,21 +104,32 @@ module _ (words : List Word) (holders : List Holder) (row : Row) (w : IsWorking 
   spared addr apart =
       laid_unnamed row.pairs addr (present_at words addr) (All-weaker (λ (p : ℕ × ℕ). (p.0 ≢ signature_word) × (p.0 ≢ version_word) × (p.0 ≢ count_word)) (λ (p : ℕ × ℕ). p.0 ≢ addr) apart row.pairs k.spares)
 
-  pub kernel_survives : KernelSurvives row words new
-  kernel_survives = by s.either
+  -- whichever came of the call, the kernel works, and a crash changes no word of its pages
+  works_whole : IsThere row.granted row.pairs new → IsWorking new []
+  works_whole there =
+      works_on (front (read_after row.pairs (present_at words)) (behind there) (spared signature_word (λ p apart. apart.0)) (spared version_word (λ p apart. apart.1)) (spared count_word (λ p apart. apart.2)))
+      (k.tables (kernel_word new) (same (read_after row.pairs (present_at words)) (read_after row.pairs (kernel_word words)) (behind there) laid))
+
+  works_none : All (λ (p : ℕ × ℕ). IsAsBefore row.granted words new p.0) row.pairs → IsWorking new []
+  works_none all =
+      works_on (front (present_at words) (before all) refl refl refl)
+      (tables_same (pages_of words) (kernel_word words) (kernel_word new) (same (present_at words) (kernel_word words) (before all) reads_old) (tables_of words w.sound))
+
+  pub kernel_survives : KernelSurvives row words count left new
+  kernel_survives = record {
+    whole = λ taken. told (read_after row.pairs (kernel_word words)) (λ addr home low. behind (s.whole taken) addr home low ∙ laid addr);
+    none = λ early. told (kernel_word words) (λ addr home low. before (s.none early) addr home low ∙ reads_old addr);
+    works = which (cases_eq (word_at left committed_word).present 0) (cases_lt (length (zero_events row.granted ++ steps_to_stored (in_order row.pairs))) count);
+    steady = still;
+  }
     where
-      by : IsThere row.granted row.pairs new ⊎ All (λ (p : ℕ × ℕ). IsAsBefore row.granted words new p.0) row.pairs → KernelSurvives row words new
-      by (inl there) = record {
-        either = inr (told (read_after row.pairs (kernel_word words)) (λ addr home low. behind there addr home low ∙ laid addr));
-        works =
-            works_on (front (read_after row.pairs (present_at words)) (behind there) (spared signature_word (λ p apart. apart.0)) (spared version_word (λ p apart. apart.1)) (spared count_word (λ p apart. apart.2)))
-            (k.tables (kernel_word new) (same (read_after row.pairs (present_at words)) (read_after row.pairs (kernel_word words)) (behind there) laid));
-        steady = still;
-      }
-      by (inr all) = record {
-        either = inl (told (kernel_word words) (λ addr home low. before all addr home low ∙ reads_old addr));
-        works =
-            works_on (front (present_at words) (before all) refl refl refl)
-            (tables_same (pages_of words) (kernel_word words) (kernel_word new) (same (present_at words) (kernel_word words) (before all) reads_old) (tables_of words w.sound));
-        steady = still;
-      }
+      which : ((word_at left committed_word).present ≡ 0) ⊎ ((word_at left committed_word).present ≡ 0 → ⊥)
+          → (length (zero_events row.granted ++ steps_to_stored (in_order row.pairs)) < count) ⊎ (count ≤ length (zero_events row.granted ++ steps_to_stored (in_order row.pairs)))
+          → IsWorking new []
+      which (inr some) either = works_whole (s.whole (inl some))
+      which (inl zero) (inl late) = works_whole (s.whole (inr late))
+      which (inl zero) (inr soon) = works_none (s.none early)
+        where
+          early : IsTaken row.granted row.pairs count left → ⊥
+          early (inl some) = some zero
+          early (inr late) = omega (arith, soon, late)

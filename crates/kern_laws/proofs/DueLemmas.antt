@@ -5,13 +5,13 @@ use Rattle.std.specs.List.{list_any, AllByRecursion}
 use Rattle.std.proofs.lemmas.Bool.{cases_Bool, and_parts, or_cases, or_parts, eqb-true, ltb-true, not-false}
 use Rattle.std.proofs.lemmas.List.Elements.{All-head, All-tail, All-from_recursion}
 use Rattle.pm_words.specs.Word.{Word}
-use Rattle.tr_types.specs.KernelView.{pages_of}
-use Rattle.tr_types.specs.Journal.{kernel_word}
-use Rattle.tr_types.specs.KernelTables.{coffer_in, coffers_in, owner_in}
-use Rattle.tr_types.specs.Kernel.{kernel_owner}
-use Rattle.tr_types.specs.PathMap.{coffer_with}
-use Rattle.tr_types.specs.Rights.{is_row_of}
-use Rattle.tr_types.specs.KernelCalls.{refused_where, first_due, owns_page, is_listed_twice, is_bad_page, not_yours, or_none, named}
+use Rattle.kern_model.specs.KernelView.{pages_of}
+use Rattle.kern_model.specs.Journal.{kernel_word}
+use Rattle.kern_model.specs.KernelTables.{coffer_in, coffers_in, owner_in}
+use Rattle.kern_model.specs.Kernel.{kernel_owner}
+use Rattle.kern_model.specs.PathMap.{coffer_with}
+use Rattle.kern_model.specs.Rights.{is_row_of}
+use Rattle.kern_model.specs.KernelCalls.{refused_where, first_due, owns_page, is_listed_twice, is_bad_page, not_yours, or_none, named}
 use Rattle.tr_types.specs.declared.kernel_call.KernAnswer.{KernAnswer}
 use Rattle.tr_types.specs.declared.kernel_call.Holder.{Holder}
 use Rattle.kern_owner.specs.Owners.{is_among}

@@ -4,13 +4,13 @@ use Rattle.std.specs.Prelude.{All}
 use Rattle.std.proofs.lemmas.Bool.{not-false}
 use Rattle.std.proofs.lemmas.List.Elements.{All-take}
 use Rattle.pm_words.specs.Word.{Word}
-use Rattle.tr_types.specs.KernelView.{pages_of}
-use Rattle.tr_types.specs.Journal.{kernel_word}
-use Rattle.tr_types.specs.Kernel.{spare_pages}
-use Rattle.tr_types.specs.KernelTables.{is_id, stands_in}
-use Rattle.tr_types.specs.Rights.{has_bit}
-use Rattle.tr_types.specs.KernelCalls.{Callers, first_due, holds_for_writing, enlarge_row, IsCall}
-use Rattle.tr_types.specs.Commits.{IsOuter, IsWorking, IsCaller}
+use Rattle.kern_model.specs.KernelView.{pages_of}
+use Rattle.kern_model.specs.Journal.{kernel_word}
+use Rattle.kern_model.specs.Kernel.{spare_pages}
+use Rattle.kern_model.specs.KernelTables.{is_id, stands_in}
+use Rattle.tr_types.specs.Permission.{has_bit}
+use Rattle.kern_model.specs.KernelCalls.{Callers, first_due, holds_for_writing, enlarge_row, IsCall}
+use Rattle.kern_model.specs.Commits.{IsOuter, IsWorking, IsCaller}
 use Rattle.tr_types.specs.declared.kernel_call.Kcall.TheVariants as call
 use Rattle.tr_types.specs.declared.kernel_call.KernAnswer.TheVariants as answer
 use Rattle.tr_types.specs.declared.kernel_call.Holder.{Holder}

@@ -5,13 +5,13 @@ use Rattle.std.proofs.lemmas.Bool.{and_parts, not-false}
 use Rattle.std.proofs.lemmas.List.Elements.{All-nil, All-from_recursion}
 use Rattle.zo_layout.specs.Layout.{page_at, coffer_table, coffer_entry}
 use Rattle.pm_words.specs.Word.{Word}
-use Rattle.tr_types.specs.KernelView.{pages_of}
-use Rattle.tr_types.specs.Journal.{kernel_word}
-use Rattle.tr_types.specs.Kernel.{read_after}
-use Rattle.tr_types.specs.KernelTables.{Coffer, is_id, is_mode, is_there, stands_in, coffer_in}
-use Rattle.tr_types.specs.PathMap.{perm_pairs, state_pairs}
-use Rattle.tr_types.specs.KernelCalls.{Callers, Row, first_due, in_order, named, is_there_with, mode_row, recover_row, recovery_number, IsCall}
-use Rattle.tr_types.specs.Commits.{IsOuter, MayCommit, IsWorking, IsCaller}
+use Rattle.kern_model.specs.KernelView.{pages_of}
+use Rattle.kern_model.specs.Journal.{kernel_word}
+use Rattle.kern_model.specs.Kernel.{read_after}
+use Rattle.kern_model.specs.KernelTables.{Coffer, is_id, is_mode, is_there, stands_in, coffer_in}
+use Rattle.kern_model.specs.PathMap.{perm_pairs, state_pairs}
+use Rattle.kern_model.specs.KernelCalls.{Callers, Row, first_due, in_order, named, is_there_with, mode_row, recover_row, recovery_number, IsCall}
+use Rattle.kern_model.specs.Commits.{IsOuter, MayCommit, IsWorking, IsCaller}
 use Rattle.tr_types.specs.declared.kernel_call.Kcall.TheVariants as call
 use Rattle.tr_types.specs.declared.kernel_call.KernAnswer.TheVariants as answer
 use Rattle.tr_types.specs.declared.kernel_call.Holder.{Holder}

@@ -4,20 +4,20 @@ use Rattle.std.specs.Prelude.{All, Contains}
 use Rattle.std.specs.List.{range_with_len}
 use Rattle.std.proofs.lemmas.List.Elements.{All-nil, All-weaker, All-contains}
 use Rattle.zo_layout.specs.Layout.{kernel_pages, signature_word, version_word, count_word, committed_word}
-use Rattle.pm_words.specs.Word.{Word, settled}
+use Rattle.pm_words.specs.Word.{Word, settled, crash_list}
 use Rattle.pm_words.specs.Memory.{word_at, store_at, HasPages}
 use Rattle.pm_words.proofs.WordLemmas.{length_store_at, other_place}
-use Rattle.tr_types.specs.KernelView.{pages_of}
-use Rattle.tr_types.specs.Journal.{IsHome, pair_at, committed, committed_count, laid_over, kernel_word}
-use Rattle.tr_types.specs.JournalLaws.{IsDurable}
-use Rattle.tr_types.specs.Kernel.{read_after}
-use Rattle.tr_types.specs.KernelTables.{is_id, stands_in}
-use Rattle.tr_types.specs.KernelRules.{IsFinishable}
-use Rattle.tr_types.specs.KernelCalls.{Row}
-use Rattle.tr_types.specs.Commits.{present_at, IsOuter, IsCommitted, IsWorking, RowKeeps, StoreLaw}
+use Rattle.kern_model.specs.KernelView.{pages_of}
+use Rattle.kern_model.specs.Journal.{IsHome, pair_at, committed, committed_count, laid_over, kernel_word}
+use Rattle.kern_model.specs.JournalLaws.{IsDurable}
+use Rattle.kern_model.specs.Kernel.{read_after}
+use Rattle.kern_model.specs.KernelTables.{is_id, stands_in}
+use Rattle.kern_model.specs.KernelRules.{IsFinishable}
+use Rattle.kern_model.specs.KernelCalls.{Row}
+use Rattle.kern_model.specs.Commits.{present_at, IsOuter, IsCommitted, IsWorking, RowKeeps, StoreLaw, HasSteadyTables}
 use Rattle.tr_types.specs.declared.kernel_call.Holder.{Holder}
-use Rattle.tr_types.proofs.LaidLemmas.{laid_unnamed}
-use Rattle.tr_types.proofs.FinishLemmas.{idle_read}
+use Rattle.kern_model.proofs.LaidLemmas.{laid_unnamed}
+use Rattle.kern_model.proofs.FinishLemmas.{idle_read}
 use Rattle.kern_owner.specs.Laws.{SameTables, TablesPass}
 use Rattle.kern_laws.specs.Rows.{KeepsTables}
 use Rattle.kern_laws.proofs.TablesLemmas.{same_coffers, held_still, tables_same, tables_of}
@@ -106,12 +106,17 @@ frame words holders row w k =
 -- A store to a page that isn't the kernel's.
 
 pub store_keeps : StoreLaw
-store_keeps words holders addr value w outer = (
-  works words new holders holders w (length_store_at addr value words) idle front
+store_keeps words holders addr value w outer = record {
+  works = works words new holders holders w (length_store_at addr value words) idle front
       (tables_same (pages_of words) (kernel_word words) (kernel_word new) tables (tables_of words w.sound)) w.ids
-      (held_still (pages_of words) (kernel_word words) (kernel_word new) holders (same_coffers (pages_of words) (kernel_word words) (kernel_word new) tables) w.ids w.held),
-  λ other below. ap (λ (w : Word). w.present) (stays other below),
-)
+      (held_still (pages_of words) (kernel_word words) (kernel_word new) holders (same_coffers (pages_of words) (kernel_word words) (kernel_word new) tables) w.ids w.held);
+  same = λ other below. ap (λ (w : Word). w.present) (stays other below);
+  steady = λ before at home low left there.
+      let len : length (store_at addr value words) ≡ length words = length_store_at addr value words in
+      let below : at / 4096 < kernel_pages (pages_of words) = subst (λ (n : ℕ). at / 4096 < kernel_pages (n / 512)) len low in
+      before at (subst (λ (n : ℕ). IsHome n at) len home) below left (subst (λ (w : Word). Contains (crash_list w) left) (stays at below) there)
+      ∙ sym (ap (λ (w : Word). w.present) (stays at below));
+}
   where
     new : List Word
     new = store_at addr value words

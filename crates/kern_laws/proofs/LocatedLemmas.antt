@@ -4,12 +4,12 @@ use Rattle.std.specs.Prelude.{◌||◌, fold, nat_lt, codes}
 use Rattle.std.specs.List.{range_with_len}
 use Rattle.std.proofs.lemmas.Bool.{and_parts, cond-true, cond_both, or_right}
 use Rattle.pm_words.specs.Word.{Word}
-use Rattle.tr_types.specs.KernelView.{pages_of}
-use Rattle.tr_types.specs.Journal.{kernel_word}
+use Rattle.kern_model.specs.KernelView.{pages_of}
+use Rattle.kern_model.specs.Journal.{kernel_word}
 use Rattle.tr_types.specs.Paths.{same_text, begins_with}
-use Rattle.tr_types.specs.KernelTables.{Coffer, is_id, stands_in, coffer_in, coffers_in, path_in}
-use Rattle.tr_types.specs.PathMap.{longer, longest, coffer_of_path}
-use Rattle.tr_types.specs.KernelCalls.{or_none, located}
+use Rattle.kern_model.specs.KernelTables.{Coffer, is_id, stands_in, coffer_in, coffers_in, path_in}
+use Rattle.kern_model.specs.PathMap.{longer, longest, coffer_of_path}
+use Rattle.kern_model.specs.KernelCalls.{or_none, located}
 use Rattle.kern_owner.specs.Laws.{TablesPass}
 use Rattle.kern_roots.specs.Entries.{has_id}
 use Rattle.kern_roots.proofs.ReadingSound.{entry_is_sound, root_is_there}

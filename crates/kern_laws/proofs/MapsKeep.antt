@@ -5,12 +5,12 @@ use Rattle.std.proofs.lemmas.Bool.{and_parts}
 use Rattle.std.proofs.lemmas.List.Elements.{All-nil, All-push, All-filter}
 use Rattle.zo_layout.specs.Layout.{signature_word, version_word, count_word}
 use Rattle.pm_words.specs.Word.{Word}
-use Rattle.tr_types.specs.KernelView.{pages_of}
-use Rattle.tr_types.specs.Journal.{kernel_word}
-use Rattle.tr_types.specs.KernelTables.{is_id, stands_in}
-use Rattle.tr_types.specs.Rights.{key_for, is_row_of, without_row}
-use Rattle.tr_types.specs.KernelCalls.{Callers, row_of_maps, located, key_or_none, find_row, map_row, unmap_row}
-use Rattle.tr_types.specs.Commits.{IsOuter, IsWorking}
+use Rattle.kern_model.specs.KernelView.{pages_of}
+use Rattle.kern_model.specs.Journal.{kernel_word}
+use Rattle.kern_model.specs.KernelTables.{is_id, stands_in}
+use Rattle.kern_model.specs.Rights.{key_for, is_row_of, without_row}
+use Rattle.kern_model.specs.KernelCalls.{Callers, row_of_maps, located, key_or_none, find_row, map_row, unmap_row}
+use Rattle.kern_model.specs.Commits.{IsOuter, IsWorking}
 use Rattle.tr_types.specs.declared.kernel_call.KernAnswer.{KernAnswer}
 use Rattle.tr_types.specs.declared.kernel_call.Holder.{Holder}
 use Rattle.tr_types.specs.declared.permission.Right.{Right}

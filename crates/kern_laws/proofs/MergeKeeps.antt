@@ -7,13 +7,13 @@ use Rattle.std.proofs.lemmas.List.{length-append, length-map, append_assoc}
 use Rattle.std.proofs.lemmas.List.Elements.{All-nil, All-cons, All-append}
 use Rattle.zo_layout.specs.Layout.{owner_word}
 use Rattle.pm_words.specs.Word.{Word}
-use Rattle.tr_types.specs.KernelView.{pages_of}
-use Rattle.tr_types.specs.Journal.{kernel_word, laid_over}
-use Rattle.tr_types.specs.Kernel.{coffer_pages}
-use Rattle.tr_types.specs.KernelTables.{is_id, owner_in, stands_in, pages_owned}
-use Rattle.tr_types.specs.PathMap.{dropped_pairs}
-use Rattle.tr_types.specs.KernelCalls.{Callers, first_due, named, is_there_with, holds_both, link_addr, link_pair, unlisted, without_coffer, merge_row, IsCall}
-use Rattle.tr_types.specs.Commits.{IsWorking, IsCaller}
+use Rattle.kern_model.specs.KernelView.{pages_of}
+use Rattle.kern_model.specs.Journal.{kernel_word, laid_over}
+use Rattle.kern_model.specs.Kernel.{coffer_pages}
+use Rattle.kern_model.specs.KernelTables.{is_id, owner_in, stands_in, pages_owned}
+use Rattle.kern_model.specs.PathMap.{dropped_pairs}
+use Rattle.kern_model.specs.KernelCalls.{Callers, first_due, named, is_there_with, holds_both, link_addr, link_pair, unlisted, without_coffer, merge_row, IsCall}
+use Rattle.kern_model.specs.Commits.{IsWorking, IsCaller}
 use Rattle.tr_types.specs.declared.kernel_call.Kcall.TheVariants as call
 use Rattle.tr_types.specs.declared.kernel_call.KernAnswer.{KernAnswer}
 use Rattle.tr_types.specs.declared.kernel_call.KernAnswer.TheVariants as answer

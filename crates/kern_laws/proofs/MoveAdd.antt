@@ -3,9 +3,9 @@ use Rattle.std.proofs.Common.{◌≡◌, ◌≢◌, ◌⊎◌, inl, inr, ℕ, �
 use Rattle.std.specs.Prelude.{All}
 use Rattle.std.proofs.lemmas.Bool.{cases_eq, cases_Bool, and_parts}
 use Rattle.zo_layout.specs.Layout.{kernel_pages}
-use Rattle.tr_types.specs.Kernel.{read_after}
-use Rattle.tr_types.specs.KernelTables.{Coffer, owner_in, is_id, is_there, is_mode, stands_in, coffer_in, entry_fails}
-use Rattle.tr_types.specs.PathMap.{added_pairs}
+use Rattle.kern_model.specs.Kernel.{read_after}
+use Rattle.kern_model.specs.KernelTables.{Coffer, owner_in, is_id, is_there, is_mode, stands_in, coffer_in, entry_fails}
+use Rattle.kern_model.specs.PathMap.{added_pairs}
 use Rattle.kern_owner.specs.Owners.{owner_pairs, is_among}
 use Rattle.kern_owner.specs.Laws.{SameTables, TablesPass}
 use Rattle.kern_owner.proofs.LawLemmas.{owner_read}

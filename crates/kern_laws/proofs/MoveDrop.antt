@@ -3,10 +3,10 @@ use Rattle.std.proofs.Common.{◌≡◌, ◌≢◌, ◌⊎◌, inl, inr, ℕ, �
 use Rattle.std.specs.Prelude.{All}
 use Rattle.std.proofs.lemmas.Bool.{cases_eq, and_parts}
 use Rattle.zo_layout.specs.Layout.{owner_word}
-use Rattle.tr_types.specs.Journal.{laid_over}
-use Rattle.tr_types.specs.Kernel.{read_after}
-use Rattle.tr_types.specs.KernelTables.{Coffer, owner_in, owns, is_id, is_there, stands_in, coffer_in, entry_fails}
-use Rattle.tr_types.specs.PathMap.{dropped_pairs}
+use Rattle.kern_model.specs.Journal.{laid_over}
+use Rattle.kern_model.specs.Kernel.{read_after}
+use Rattle.kern_model.specs.KernelTables.{Coffer, owner_in, owns, is_id, is_there, stands_in, coffer_in, entry_fails}
+use Rattle.kern_model.specs.PathMap.{dropped_pairs}
 use Rattle.kern_owner.specs.Laws.{SameTables, TablesPass}
 use Rattle.kern_roots.specs.Changes.{is_used}
 use Rattle.kern_roots.specs.Laws.{KeepsOwners, ChangesOne, DropLaw}

@@ -9,8 +9,8 @@ use Rattle.std.proofs.lemmas.Nat.{mod_below}
 use Rattle.std.proofs.lemmas.List.FromFn.{length-map-range_with_len}
 use Rattle.std.proofs.lemmas.List.Elements.{All-nil, All-cons, All-head, All-tail, All-append}
 use Rattle.zo_layout.specs.Layout.{word_of, coffer_entry, coffer_next, path_bucket, bucket_of, name_hash}
-use Rattle.tr_types.specs.KernelTables.{Coffer, is_id, stands_in, path_in, chain_in, belongs, bucket_fails, is_in_chain}
-use Rattle.tr_types.specs.PathMap.{entry_words, text_words, from_address, added_pairs, dropped_pairs, with_pair, no_words, leads_to, leading_word}
+use Rattle.kern_model.specs.KernelTables.{Coffer, is_id, stands_in, path_in, chain_in, belongs, bucket_fails, is_in_chain}
+use Rattle.kern_model.specs.PathMap.{entry_words, text_words, from_address, added_pairs, dropped_pairs, with_pair, no_words, leads_to, leading_word}
 use Rattle.kern_roots.proofs.ReadingChains.{bucket_is_sound, belongs_is}
 use Rattle.kern_laws.proofs.MoveReads.{IsCofferPlace, entry_placed, bucket_placed}
 use Rattle.kern_laws.proofs.MoveOwners.{id_bounds}

@@ -6,11 +6,11 @@ use Rattle.std.proofs.lemmas.List.Elements.{All-weaker, All-append}
 use Rattle.zo_layout.specs.Layout.{page_at, kernel_pages, owner_table, coffer_table, committed_word, pair_capacity, signature_word, version_word, count_word}
 use Rattle.pm_words.specs.Word.{Word}
 use Rattle.pm_words.specs.Memory.{HasPages}
-use Rattle.tr_types.specs.KernelView.{pages_of}
-use Rattle.tr_types.specs.Journal.{IsHome}
-use Rattle.tr_types.specs.JournalLaws.{IsDurable}
-use Rattle.tr_types.specs.KernelCalls.{put_pair}
-use Rattle.tr_types.specs.Commits.{MayCommit}
+use Rattle.kern_model.specs.KernelView.{pages_of}
+use Rattle.kern_model.specs.Journal.{IsHome}
+use Rattle.kern_model.specs.JournalLaws.{IsDurable}
+use Rattle.kern_model.specs.KernelCalls.{put_pair}
+use Rattle.kern_model.specs.Commits.{MayCommit}
 use Rattle.kern_laws.proofs.MoveReads.{IsBetween, IsOwnerPlace, IsCofferPlace, IsOuterPlace, AreParts}
 
 -- a word of the image behind the journal

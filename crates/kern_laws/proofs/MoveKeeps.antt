@@ -6,13 +6,13 @@ use Rattle.std.proofs.lemmas.List.{length-append, length-map}
 use Rattle.std.proofs.lemmas.List.Elements.{All-nil, All-filter, filter_passes}
 use Rattle.zo_layout.specs.Layout.{kernel_pages, owner_word, word_of, coffer_entry, coffer_state}
 use Rattle.pm_words.specs.Word.{Word}
-use Rattle.tr_types.specs.KernelView.{pages_of}
-use Rattle.tr_types.specs.Journal.{kernel_word}
-use Rattle.tr_types.specs.KernelRules.{IsSoundKernel}
-use Rattle.tr_types.specs.KernelTables.{Coffer, is_id, is_there, stands_in}
-use Rattle.tr_types.specs.PathMap.{added_pairs, dropped_pairs}
-use Rattle.tr_types.specs.KernelCalls.{Row, without_coffer}
-use Rattle.tr_types.specs.Commits.{IsWorking}
+use Rattle.kern_model.specs.KernelView.{pages_of}
+use Rattle.kern_model.specs.Journal.{kernel_word}
+use Rattle.kern_model.specs.KernelRules.{IsSoundKernel}
+use Rattle.kern_model.specs.KernelTables.{Coffer, is_id, is_there, stands_in}
+use Rattle.kern_model.specs.PathMap.{added_pairs, dropped_pairs}
+use Rattle.kern_model.specs.KernelCalls.{Row, without_coffer}
+use Rattle.kern_model.specs.Commits.{IsWorking}
 use Rattle.tr_types.specs.declared.kernel_call.KernAnswer.{KernAnswer}
 use Rattle.tr_types.specs.declared.kernel_call.Holder.{Holder}
 use Rattle.kern_owner.specs.Owners.{owner_pairs}

@@ -7,10 +7,10 @@ use Rattle.std.proofs.lemmas.List.Sums.{length-filter}
 use Rattle.std.proofs.lemmas.List.Elements.{All-append, All-filter}
 use Rattle.zo_layout.specs.Layout.{kernel_pages}
 use Rattle.pm_words.specs.Word.{Word}
-use Rattle.tr_types.specs.KernelView.{pages_of}
-use Rattle.tr_types.specs.Journal.{kernel_word}
-use Rattle.tr_types.specs.KernelTables.{owner_in, owns, pages_owned}
-use Rattle.tr_types.specs.KernelCalls.{owns_page, is_bad_page, is_listed_twice, unlisted}
+use Rattle.kern_model.specs.KernelView.{pages_of}
+use Rattle.kern_model.specs.Journal.{kernel_word}
+use Rattle.kern_model.specs.KernelTables.{owner_in, owns, pages_owned}
+use Rattle.kern_model.specs.KernelCalls.{owns_page, is_bad_page, is_listed_twice, unlisted}
 use Rattle.kern_owner.specs.Owners.{is_among}
 use Rattle.kern_owner.specs.Laws.{OwnersPass}
 use Rattle.kern_owner.proofs.RangeLemmas.{within}

@@ -4,7 +4,7 @@ use Rattle.std.specs.Prelude.{◌&&◌, ◌||◌, nat_lt, nat_le, All, is_some}
 use Rattle.std.proofs.lemmas.Bool.{cases_Bool, eq-eqb, eqb-true, lt-ltb, le-ltb, ltb-true, leb-true, le-leb, and_parts, and_from, or_parts, or_cases, or_right, not-false, true≢false, cond-true, cond-false}
 use Rattle.std.proofs.lemmas.List.Elements.{All-nil, All-cons, All-head, All-tail, All-map, All-weaker}
 use Rattle.zo_layout.specs.Layout.{kernel_pages, owner_word}
-use Rattle.tr_types.specs.KernelTables.{Coffer, owner_in, owns, is_id, stands_in, coffer_in, coffer_fails, pages_fail, entry_fails, owner_fails}
+use Rattle.kern_model.specs.KernelTables.{Coffer, owner_in, owns, is_id, stands_in, coffer_in, coffer_fails, pages_fail, entry_fails, owner_fails}
 use Rattle.kern_owner.specs.Owners.{owner_pairs, is_among}
 use Rattle.kern_owner.specs.Laws.{OwnersPass}
 use Rattle.kern_owner.proofs.SoundLemmas.{OwnerCase, Kernels, Nobodys, Coffers, owner_case}

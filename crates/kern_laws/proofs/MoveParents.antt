@@ -4,15 +4,15 @@ use Rattle.std.specs.Prelude.{◌&&◌, fold, length, nat_lt}
 use Rattle.std.proofs.lemmas.Bool.{and_parts, and_from, eqb-true, not-true, true≢false}
 use Rattle.std.proofs.lemmas.Option.{same_Some}
 use Rattle.pm_words.specs.Word.{Word}
-use Rattle.tr_types.specs.KernelView.{pages_of}
-use Rattle.tr_types.specs.Journal.{kernel_word}
-use Rattle.tr_types.specs.Kernel.{coffers}
-use Rattle.tr_types.specs.KernelRules.{IsSoundKernel}
-use Rattle.tr_types.specs.KernelTables.{Coffer, coffer_in, path_in, ids_in, coffers_in}
+use Rattle.kern_model.specs.KernelView.{pages_of}
+use Rattle.kern_model.specs.Journal.{kernel_word}
+use Rattle.kern_model.specs.Kernel.{coffers}
+use Rattle.kern_model.specs.KernelRules.{IsSoundKernel}
+use Rattle.kern_model.specs.KernelTables.{Coffer, coffer_in, path_in, ids_in, coffers_in}
 use Rattle.tr_types.specs.Paths.{same_text, begins_with, lies_under}
-use Rattle.tr_types.specs.PathMap.{longer, coffer_above, is_coffer}
-use Rattle.tr_types.specs.KernelCalls.{holds_as_owner, holds_for_writing, is_there_with, named, or_none, holds_both}
-use Rattle.tr_types.specs.Commits.{IsWorking}
+use Rattle.kern_model.specs.PathMap.{longer, coffer_above, is_coffer}
+use Rattle.kern_model.specs.KernelCalls.{holds_as_owner, holds_for_writing, is_there_with, named, or_none, holds_both}
+use Rattle.kern_model.specs.Commits.{IsWorking}
 use Rattle.tr_types.specs.declared.kernel_call.Holder.{Holder}
 use Rattle.kern_roots.specs.Entries.{has_coffer, path_of}
 use Rattle.kern_roots.proofs.ReadingCoffers.{coffer_is}

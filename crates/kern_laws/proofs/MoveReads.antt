@@ -5,12 +5,12 @@ use Rattle.std.specs.Prelude.{All, if◌then◌else◌, nat_eq}
 use Rattle.std.proofs.lemmas.List.Elements.{All-weaker}
 use Rattle.std.proofs.lemmas.List.Sums.{fold-append}
 use Rattle.zo_layout.specs.Layout.{page_at, word_of, kernel_pages, owner_table, coffer_table, owner_word, coffer_entry, path_bucket}
-use Rattle.tr_types.specs.Journal.{laid_over}
-use Rattle.tr_types.specs.Kernel.{read_after}
-use Rattle.tr_types.specs.KernelTables.{owner_in}
+use Rattle.kern_model.specs.Journal.{laid_over}
+use Rattle.kern_model.specs.Kernel.{read_after}
+use Rattle.kern_model.specs.KernelTables.{owner_in}
 use Rattle.kern_owner.specs.Laws.{SameTables}
 use Rattle.kern_roots.specs.Laws.{SameRoots}
-use Rattle.tr_types.proofs.LaidLemmas.{laid_unnamed}
+use Rattle.kern_model.proofs.LaidLemmas.{laid_unnamed}
 
 -- an address of a word between two others
 pub record IsBetween (low high addr : ℕ) : Type 0 where

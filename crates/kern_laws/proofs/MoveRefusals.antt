@@ -6,14 +6,15 @@ use Rattle.std.proofs.lemmas.Bool.{and_parts, or_cases, or_parts, eqb-true, ltb-
 use Rattle.std.proofs.lemmas.List.Elements.{All-head, All-tail}
 use Rattle.zo_layout.specs.Layout.{page_at, kernel_pages}
 use Rattle.pm_words.specs.Word.{Word}
-use Rattle.tr_types.specs.KernelView.{pages_of}
-use Rattle.tr_types.specs.Journal.{kernel_word}
-use Rattle.tr_types.specs.Kernel.{kernel_owner, coffers}
-use Rattle.tr_types.specs.KernelTables.{owner_in, is_id}
-use Rattle.tr_types.specs.Rights.{has_bit, is_row_of}
+use Rattle.kern_model.specs.KernelView.{pages_of}
+use Rattle.kern_model.specs.Journal.{kernel_word}
+use Rattle.kern_model.specs.Kernel.{kernel_owner, coffers}
+use Rattle.kern_model.specs.KernelTables.{owner_in, is_id}
+use Rattle.tr_types.specs.Permission.{has_bit}
+use Rattle.kern_model.specs.Rights.{is_row_of}
 use Rattle.tr_types.specs.Paths.{is_path_text, same_text, directory_path}
-use Rattle.tr_types.specs.PathMap.{coffer_of_path, is_coffer}
-use Rattle.tr_types.specs.KernelCalls.{holds_for_writing, is_bad_new_path, refused_where, first_due, is_word_of, owns_page, is_bad_page, bad_address_page, not_yours, pages_refused}
+use Rattle.kern_model.specs.PathMap.{coffer_of_path, is_coffer}
+use Rattle.kern_model.specs.KernelCalls.{holds_for_writing, is_bad_new_path, refused_where, first_due, is_word_of, owns_page, is_bad_page, bad_address_page, not_yours, pages_refused}
 use Rattle.tr_types.specs.declared.kernel_call.KernAnswer.{KernAnswer}
 use Rattle.tr_types.specs.declared.kernel_call.Holder.{Holder}
 use Rattle.kern_owner.specs.Laws.{OwnersPass}

@@ -7,11 +7,11 @@ use Rattle.std.proofs.lemmas.List.{length-take}
 use Rattle.std.proofs.lemmas.List.Elements.{All-take, filter_passes}
 use Rattle.zo_layout.specs.Layout.{kernel_pages}
 use Rattle.pm_words.specs.Word.{Word}
-use Rattle.tr_types.specs.KernelView.{pages_of}
-use Rattle.tr_types.specs.Journal.{kernel_word}
-use Rattle.tr_types.specs.KernelTables.{all_ids, is_id, owner_in, owns, pages_free, stands_in}
-use Rattle.tr_types.specs.PathMap.{free_id}
-use Rattle.tr_types.specs.KernelCalls.{next_id}
+use Rattle.kern_model.specs.KernelView.{pages_of}
+use Rattle.kern_model.specs.Journal.{kernel_word}
+use Rattle.kern_model.specs.KernelTables.{all_ids, is_id, owner_in, owns, pages_free, stands_in}
+use Rattle.kern_model.specs.PathMap.{free_id}
+use Rattle.kern_model.specs.KernelCalls.{next_id}
 use Rattle.kern_owner.specs.Owners.{is_among}
 use Rattle.kern_owner.specs.Laws.{OwnersPass}
 use Rattle.kern_owner.proofs.RangeLemmas.{within}

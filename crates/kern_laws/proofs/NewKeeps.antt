@@ -6,13 +6,13 @@ use Rattle.std.proofs.lemmas.Bool.{and_parts, not-false, ltb-false}
 use Rattle.std.proofs.lemmas.List.Elements.{All-nil, All-cons}
 use Rattle.zo_layout.specs.Layout.{page_at, page_kind, kernel_pages}
 use Rattle.pm_words.specs.Word.{Word}
-use Rattle.tr_types.specs.KernelView.{pages_of}
-use Rattle.tr_types.specs.Journal.{kernel_word}
-use Rattle.tr_types.specs.Kernel.{coffers, spare_pages}
-use Rattle.tr_types.specs.KernelTables.{Coffer, is_id, is_mode, stands_in, coffer_in, pages_free}
-use Rattle.tr_types.specs.PathMap.{coffer_at_path}
-use Rattle.tr_types.specs.KernelCalls.{Callers, cred_of, first_due, holds_for_writing, is_bad_new_path, link_addr, link_pair, next_id, new_coffer, new_row, IsCall}
-use Rattle.tr_types.specs.Commits.{IsWorking, IsCaller}
+use Rattle.kern_model.specs.KernelView.{pages_of}
+use Rattle.kern_model.specs.Journal.{kernel_word}
+use Rattle.kern_model.specs.Kernel.{coffers, spare_pages}
+use Rattle.kern_model.specs.KernelTables.{Coffer, is_id, is_mode, stands_in, coffer_in, pages_free}
+use Rattle.kern_model.specs.PathMap.{coffer_at_path}
+use Rattle.kern_model.specs.KernelCalls.{Callers, cred_of, first_due, holds_for_writing, is_bad_new_path, link_addr, link_pair, next_id, new_coffer, new_row, IsCall}
+use Rattle.kern_model.specs.Commits.{IsWorking, IsCaller}
 use Rattle.tr_types.specs.declared.kernel_call.Kcall.TheVariants as call
 use Rattle.tr_types.specs.declared.kernel_call.KernAnswer.{KernAnswer}
 use Rattle.tr_types.specs.declared.kernel_call.KernAnswer.TheVariants as answer

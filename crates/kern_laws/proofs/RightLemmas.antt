@@ -4,10 +4,10 @@ use Rattle.std.specs.Prelude.{All, ◌&&◌, ◌||◌, nat_le, codes}
 use Rattle.std.proofs.lemmas.Bool.{cases_Bool, cases_eq, and_parts, and_from, or_parts, leb-true, ltb-true, eqb-true, eqb-false, eq-eqb, not-false, cond-true}
 use Rattle.std.proofs.lemmas.List.Elements.{All-weaker}
 use Rattle.zo_layout.specs.Layout.{page_at, kernel_pages, coffer_table, owner_word, word_of, coffer_entry, path_bucket}
-use Rattle.tr_types.specs.Kernel.{read_after}
+use Rattle.kern_model.specs.Kernel.{read_after}
 use Rattle.tr_types.specs.Paths.{same_text}
-use Rattle.tr_types.specs.KernelTables.{Coffer, owner_in, is_id, is_mode, is_there, stands_in, coffer_in, coffer_fails, path_fails, pages_fail, path_stands_twice, owns, entry_fails}
-use Rattle.tr_types.proofs.LaidLemmas.{laid_unnamed}
+use Rattle.kern_model.specs.KernelTables.{Coffer, owner_in, is_id, is_mode, is_there, stands_in, coffer_in, coffer_fails, path_fails, pages_fail, path_stands_twice, owns, entry_fails}
+use Rattle.kern_model.proofs.LaidLemmas.{laid_unnamed}
 use Rattle.kern_owner.specs.Laws.{SameTables, OwnersPass, TablesPass}
 use Rattle.kern_roots.specs.Laws.{PassesRoots, SameRoots, KeepsOwners, IsRight, ChangesOne}
 use Rattle.kern_roots.specs.Changes.{is_used}

@@ -7,10 +7,10 @@ use Rattle.std.proofs.lemmas.List.Elements.{All-weaker, All-map, recursion_from_
 use Rattle.zo_layout.specs.Layout.{page_at, kernel_pages, owner_table, owner_word, coffer_entry, signature_word, version_word, count_word, pair_capacity}
 use Rattle.pm_words.specs.Word.{Word}
 use Rattle.pm_words.specs.Memory.{HasPages}
-use Rattle.tr_types.specs.KernelView.{pages_of}
-use Rattle.tr_types.specs.Journal.{IsHome}
-use Rattle.tr_types.specs.KernelCalls.{put_pair, in_order}
-use Rattle.tr_types.specs.Commits.{IsOuter, MayCommit, IsWorking}
+use Rattle.kern_model.specs.KernelView.{pages_of}
+use Rattle.kern_model.specs.Journal.{IsHome}
+use Rattle.kern_model.specs.KernelCalls.{put_pair, in_order}
+use Rattle.kern_model.specs.Commits.{IsOuter, MayCommit, IsWorking}
 use Rattle.tr_types.specs.declared.kernel_call.Holder.{Holder}
 use Rattle.kern_owner.specs.Owners.{owner_pairs}
 

@@ -1,8 +1,8 @@
 -- Each row keeps the kernel's rules.
 use Rattle.std.proofs.Common.{◌≡◌, ℕ, List, None}
 use Rattle.pm_words.specs.Word.{Word}
-use Rattle.tr_types.specs.KernelCalls.{Callers, first_due, row_of, IsCall}
-use Rattle.tr_types.specs.Commits.{IsWorking, IsCaller, RowLaw}
+use Rattle.kern_model.specs.KernelCalls.{Callers, first_due, row_of, IsCall}
+use Rattle.kern_model.specs.Commits.{IsWorking, IsCaller, RowLaw}
 use Rattle.tr_types.specs.declared.kernel_call.Kcall.{Kcall}
 use Rattle.tr_types.specs.declared.kernel_call.Kcall.TheVariants as call
 use Rattle.tr_types.specs.declared.kernel_call.Holder.{Holder}

@@ -5,12 +5,12 @@ use Rattle.std.proofs.lemmas.Bool.{not-false, and_from, or_parts, eqb-false}
 use Rattle.std.proofs.lemmas.List.Elements.{All-nil, All-weaker}
 use Rattle.zo_layout.specs.Layout.{page_at, kernel_pages, owner_table, owner_word, coffer_entry, coffer_control, coffer_root}
 use Rattle.pm_words.specs.Word.{Word}
-use Rattle.tr_types.specs.KernelView.{pages_of}
-use Rattle.tr_types.specs.Journal.{kernel_word}
-use Rattle.tr_types.specs.Kernel.{read_after}
-use Rattle.tr_types.specs.KernelTables.{Coffer, owner_in, is_id, stands_in, coffer_in}
-use Rattle.tr_types.specs.KernelCalls.{Callers, first_due, holds_for_writing, is_bad_page, bad_address_page, pages_refused, control_and_root, named, shrink_row, IsCall}
-use Rattle.tr_types.specs.Commits.{IsOuter, IsWorking, IsCaller}
+use Rattle.kern_model.specs.KernelView.{pages_of}
+use Rattle.kern_model.specs.Journal.{kernel_word}
+use Rattle.kern_model.specs.Kernel.{read_after}
+use Rattle.kern_model.specs.KernelTables.{Coffer, owner_in, is_id, stands_in, coffer_in}
+use Rattle.kern_model.specs.KernelCalls.{Callers, first_due, holds_for_writing, is_bad_page, bad_address_page, pages_refused, control_and_root, named, shrink_row, IsCall}
+use Rattle.kern_model.specs.Commits.{IsOuter, IsWorking, IsCaller}
 use Rattle.tr_types.specs.declared.kernel_call.Kcall.TheVariants as call
 use Rattle.tr_types.specs.declared.kernel_call.KernAnswer.TheVariants as answer
 use Rattle.tr_types.specs.declared.kernel_call.Holder.{Holder}

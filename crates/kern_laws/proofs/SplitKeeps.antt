@@ -9,13 +9,13 @@ use Rattle.std.proofs.lemmas.List.Elements.{All-nil, All-cons, All-append}
 use Rattle.zo_layout.specs.Layout.{page_at, page_kind, word_of, kernel_pages}
 use Rattle.pm_words.specs.Word.{Word}
 use Rattle.pm_words.specs.Memory.{word_at}
-use Rattle.tr_types.specs.KernelView.{pages_of}
-use Rattle.tr_types.specs.Journal.{kernel_word}
-use Rattle.tr_types.specs.Kernel.{coffers, spare_pages}
-use Rattle.tr_types.specs.KernelTables.{Coffer, is_id, is_mode, owner_in, owns, stands_in, coffer_in, pages_free}
-use Rattle.tr_types.specs.PathMap.{coffer_at_path, added_pairs}
-use Rattle.tr_types.specs.KernelCalls.{Callers, Row, row_of_maps, first_due, refused_where, holds_for_writing, is_bad_new_path, is_bad_page, bad_address_page, pages_refused, guard_refused, link_refused, pages_short, owner_pairs, link_addr, link_pair, next_id, named, is_there_with, control_and_root, first_page, split_coffer, cleared_words, is_same_mode, split_refused, split_row, IsCall}
-use Rattle.tr_types.specs.Commits.{IsWorking, IsCaller}
+use Rattle.kern_model.specs.KernelView.{pages_of}
+use Rattle.kern_model.specs.Journal.{kernel_word}
+use Rattle.kern_model.specs.Kernel.{coffers, spare_pages}
+use Rattle.kern_model.specs.KernelTables.{Coffer, is_id, is_mode, owner_in, owns, stands_in, coffer_in, pages_free}
+use Rattle.kern_model.specs.PathMap.{coffer_at_path, added_pairs}
+use Rattle.kern_model.specs.KernelCalls.{Callers, Row, row_of_maps, first_due, refused_where, holds_for_writing, is_bad_new_path, is_bad_page, bad_address_page, pages_refused, guard_refused, link_refused, pages_short, owner_pairs, link_addr, link_pair, next_id, named, is_there_with, control_and_root, first_page, split_coffer, cleared_words, is_same_mode, split_refused, split_row, IsCall}
+use Rattle.kern_model.specs.Commits.{IsWorking, IsCaller}
 use Rattle.tr_types.specs.declared.kernel_call.Kcall.TheVariants as call
 use Rattle.tr_types.specs.declared.kernel_call.KernAnswer.{KernAnswer}
 use Rattle.tr_types.specs.declared.kernel_call.KernAnswer.TheVariants as answer

@@ -4,10 +4,10 @@ use Rattle.std.specs.Prelude.{All, nat_le}
 use Rattle.std.proofs.lemmas.Bool.{and_parts, leb-true}
 use Rattle.zo_layout.specs.Layout.{coffer_entry, coffer_state}
 use Rattle.pm_words.specs.Word.{Word}
-use Rattle.tr_types.specs.KernelView.{pages_of}
-use Rattle.tr_types.specs.Journal.{kernel_word}
-use Rattle.tr_types.specs.KernelTables.{is_id, is_there, stands_in}
-use Rattle.tr_types.specs.KernelRules.{IsSoundKernel}
+use Rattle.kern_model.specs.KernelView.{pages_of}
+use Rattle.kern_model.specs.Journal.{kernel_word}
+use Rattle.kern_model.specs.KernelTables.{is_id, is_there, stands_in}
+use Rattle.kern_model.specs.KernelRules.{IsSoundKernel}
 use Rattle.tr_types.specs.declared.kernel_call.Holder.{Holder}
 use Rattle.kern_owner.specs.Laws.{SameTables, SameCoffers, TablesPass}
 use Rattle.kern_owner.proofs.LawLemmas.{grant_keeps}

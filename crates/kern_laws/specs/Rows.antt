@@ -2,12 +2,12 @@
 use Rattle.std.specs.Prelude.{◌≡◌, ◌≢◌, ℕ, List, All, true, None}
 use Rattle.zo_layout.specs.Layout.{signature_word, version_word, count_word}
 use Rattle.pm_words.specs.Word.{Word}
-use Rattle.tr_types.specs.KernelView.{pages_of}
-use Rattle.tr_types.specs.Journal.{kernel_word}
-use Rattle.tr_types.specs.Kernel.{read_after}
-use Rattle.tr_types.specs.KernelTables.{is_id, stands_in}
-use Rattle.tr_types.specs.KernelCalls.{Callers, Row, row_of, first_due, IsCall}
-use Rattle.tr_types.specs.Commits.{MayCommit, IsWorking, IsCaller}
+use Rattle.kern_model.specs.KernelView.{pages_of}
+use Rattle.kern_model.specs.Journal.{kernel_word}
+use Rattle.kern_model.specs.Kernel.{read_after}
+use Rattle.kern_model.specs.KernelTables.{is_id, stands_in}
+use Rattle.kern_model.specs.KernelCalls.{Callers, Row, row_of, first_due, IsCall}
+use Rattle.kern_model.specs.Commits.{MayCommit, IsWorking, IsCaller}
 use Rattle.tr_types.specs.declared.kernel_call.Kcall.{Kcall}
 use Rattle.tr_types.specs.declared.kernel_call.Holder.{Holder}
 use Rattle.kern_owner.specs.Laws.{SameTables, TablesPass}

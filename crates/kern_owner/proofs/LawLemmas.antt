@@ -5,9 +5,9 @@ use Rattle.std.specs.List.{range_with_len}
 use Rattle.std.proofs.lemmas.Bool.{cases_eq, cases_Bool, eq-eqb, ne_eqb, eqb-true, lt-ltb, le-ltb, leb-true, or_cases, and_parts, false_from_ne_true}
 use Rattle.std.proofs.lemmas.List.Elements.{All-head, All-tail, All-take}
 use Rattle.zo_layout.specs.Layout.{page_at, kernel_pages, coffer_table, owner_word, coffer_entry, coffer_state, coffer_control, coffer_root}
-use Rattle.tr_types.specs.Journal.{laid_over}
-use Rattle.tr_types.specs.KernelTables.{owner_in, pages_owned, pages_free, is_id, is_there, stands_in, owner_fails, entry_fails, bucket_fails}
-use Rattle.tr_types.specs.Kernel.{read_after}
+use Rattle.kern_model.specs.Journal.{laid_over}
+use Rattle.kern_model.specs.KernelTables.{owner_in, pages_owned, pages_free, is_id, is_there, stands_in, owner_fails, entry_fails, bucket_fails}
+use Rattle.kern_model.specs.Kernel.{read_after}
 use Rattle.kern_owner.specs.Owners.{owner_pairs, is_among, in_order}
 use Rattle.kern_owner.specs.Laws.{SameTables, SameCoffers, IsPassed, OwnersPass, TablesPass, HasPassed, IsGranted, HasGrant, IsTakenBack, HasReturn, TakesRoot}
 use Rattle.kern_owner.proofs.RangeLemmas.{within}

@@ -5,7 +5,7 @@ use Rattle.std.specs.List.{range_with_len, AllByRecursion, IsDistinct}
 use Rattle.std.proofs.lemmas.Bool.{ne_eqb, eqb-true}
 use Rattle.std.proofs.lemmas.List.Elements.{filter_passes}
 use Rattle.zo_layout.specs.Layout.{kernel_pages}
-use Rattle.tr_types.specs.KernelTables.{owner_in, pages_owned}
+use Rattle.kern_model.specs.KernelTables.{owner_in, pages_owned}
 use Rattle.kern_owner.specs.Owners.{in_order}
 use Rattle.kern_owner.specs.Laws.{OwnersPass}
 use Rattle.kern_owner.proofs.RangeLemmas.{within}

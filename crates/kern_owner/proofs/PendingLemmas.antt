@@ -8,11 +8,11 @@ use Rattle.pm_words.specs.Word.{Word}
 use Rattle.pm_words.specs.Memory.{word_at, store_at, IsPages}
 use Rattle.pm_words.proofs.WordLemmas.{length_store_at, word_at_stored, word_at_other}
 use Rattle.zo_layout.specs.Layout.{page_at, kernel_pages, owner_word, signature_word, version_word, count_word, committed_word, pair_address, pair_value, pair_capacity}
-use Rattle.tr_types.specs.KernelView.{pages_of}
-use Rattle.tr_types.specs.Journal.{IsHome, committed, committed_count, pair_at, laid_over, kernel_word}
-use Rattle.tr_types.specs.KernelTables.{owner_in, is_id, stands_in, owner_fails, entry_fails, bucket_fails}
-use Rattle.tr_types.specs.KernelRules.{IsSoundKernel}
-use Rattle.tr_types.proofs.FreePages.{pages_are}
+use Rattle.kern_model.specs.KernelView.{pages_of}
+use Rattle.kern_model.specs.Journal.{IsHome, committed, committed_count, pair_at, laid_over, kernel_word}
+use Rattle.kern_model.specs.KernelTables.{owner_in, is_id, stands_in, owner_fails, entry_fails, bucket_fails}
+use Rattle.kern_model.specs.KernelRules.{IsSoundKernel}
+use Rattle.kern_model.proofs.FreePages.{pages_are}
 use Rattle.kern_owner.specs.Owners.{is_among}
 use Rattle.kern_owner.specs.Laws.{HasPassed, IsPassed, TablesPass}
 use Rattle.kern_owner.proofs.LawLemmas.{passed, rules_hold, others_kept}

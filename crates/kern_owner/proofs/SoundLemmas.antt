@@ -3,7 +3,7 @@ use Rattle.std.proofs.Common.{◌≡◌, ◌⊎◌, inl, inr, ℕ, ◌<◌, ◌�
 use Rattle.std.specs.Prelude.{◌&&◌, ◌||◌, nat_lt, nat_le, nat_eq}
 use Rattle.std.proofs.lemmas.Bool.{cases_Bool, ltb-true, ltb-false, leb-true, eqb-true, not-false, or_cases, and_parts}
 use Rattle.zo_layout.specs.Layout.{kernel_pages}
-use Rattle.tr_types.specs.KernelTables.{owner_in, owner_fails, is_id, stands_in}
+use Rattle.kern_model.specs.KernelTables.{owner_in, owner_fails, is_id, stands_in}
 
 -- Whose a page is, where the rule holds.
 pub data OwnerCase (pages : ℕ) (at : ℕ → ℕ) (page : ℕ) : Type 0 where

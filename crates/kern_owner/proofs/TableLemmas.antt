@@ -6,7 +6,7 @@ use Rattle.std.specs.Int.{w64, to_le_bytes}
 use Rattle.std.proofs.lemmas.Bool.{cases_Bool, eq-eqb, eqb-true, ltb-true, leb-true, and_parts, and_from, or_parts, not-false}
 use Rattle.zo_layout.specs.Layout.{coffer_entry, coffer_state, coffer_uid, coffer_gid, coffer_mode, coffer_control, coffer_root, coffer_next, coffer_path_length, coffer_kind, coffer_path_word, path_bucket, bucket_of}
 use Rattle.tr_types.specs.Paths.{same_text, is_path_text}
-use Rattle.tr_types.specs.KernelTables.{Coffer, owner_in, all_ids, longest_chain, chain_from, chain_in, path_length, path_in, path_bytes, coffer_in, stands_in, is_there, is_id, is_mode, coffer_fails, path_fails, pages_fail, path_stands_twice, owns, entry_fails, bucket_fails, belongs, is_in_chain, none_twice}
+use Rattle.kern_model.specs.KernelTables.{Coffer, owner_in, all_ids, longest_chain, chain_from, chain_in, path_length, path_in, path_bytes, coffer_in, stands_in, is_there, is_id, is_mode, coffer_fails, path_fails, pages_fail, path_stands_twice, owns, entry_fails, bucket_fails, belongs, is_in_chain, none_twice}
 use Rattle.kern_owner.specs.Laws.{SameCoffers}
 use Rattle.kern_owner.proofs.AmongLemmas.{filter_agree_in}
 

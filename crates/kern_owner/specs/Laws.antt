@@ -2,8 +2,9 @@
 -- what is read then.
 use Rattle.std.specs.Prelude.{◌≡◌, ◌≢◌, ◌⊎◌, ℕ, ◌+◌, ◌%◌, ◌<◌, ◌≤◌, List, ◌++◌, take, drop, filter, All, true, false, not, if◌then◌else◌}
 use Rattle.zo_layout.specs.Layout.{page_at, kernel_pages, owner_table, coffer_table, owner_word, coffer_entry, coffer_control, coffer_root}
-use Rattle.tr_types.specs.KernelTables.{owner_in, pages_owned, pages_free, is_id, stands_in, owner_fails, entry_fails, bucket_fails}
-use Rattle.tr_types.specs.Kernel.{read_after}
+use Rattle.kern_model.specs.KernelTables.{owner_in, pages_owned, pages_free, is_id, stands_in, owner_fails, entry_fails, bucket_fails}
+use Rattle.kern_model.specs.Kernel.{read_after}
+use Rattle.kern_model.specs.declared.limits.TheConstants.{LAST_COFFER}
 use Rattle.kern_owner.specs.Owners.{owner_pairs, is_among, in_order}
 
 -- The owner words are in order of their pages, from the owner table's first word on, and none is a word of the coffer
@@ -33,7 +34,7 @@ OwnersPass pages at = (page : ℕ) → page < pages → owner_fails pages at pag
 -- the three rules of the tables hold everywhere
 pub record TablesPass (pages : ℕ) (at : ℕ → ℕ) : Type 0 where
   pub owners : OwnersPass pages at
-  pub entries : (id : ℕ) → 1 ≤ id → id ≤ 256 → entry_fails pages at id ≡ false
+  pub entries : (id : ℕ) → 1 ≤ id → id ≤ LAST_COFFER → entry_fails pages at id ≡ false
   pub buckets : (bucket : ℕ) → bucket < 256 → bucket_fails pages at bucket ≡ false
 
 -- Pages that come to an owner.
@@ -56,7 +57,7 @@ pub record TakesRoot (pages : ℕ) (list : List ℕ) (at : ℕ → ℕ) (id : �
 abbrev pub PassKeepsRules : Type 0
 PassKeepsRules = (pages owner : ℕ) (list : List ℕ) (at after : ℕ → ℕ) → HasPassed pages owner list at after
     → All (λ page. page < pages) list → All (λ page. kernel_pages pages ≤ page) list
-    → ((id : ℕ) → 1 ≤ id → id ≤ 256 → id ≢ owner → TakesRoot pages list at id → ⊥)
+    → ((id : ℕ) → 1 ≤ id → id ≤ LAST_COFFER → id ≢ owner → TakesRoot pages list at id → ⊥)
     → is_id owner ≡ true → stands_in pages at owner ≡ true → TablesPass pages at → TablesPass pages after
 
 -- Grants.
@@ -104,7 +105,7 @@ ReturnKeepsOwners = (pages : ℕ) (list : List ℕ) (at after : ℕ → ℕ) →
 -- taken back, they keep the rule of each coffer whose control page and root page aren't among them
 abbrev pub ReturnKeepsEntries : Type 0
 ReturnKeepsEntries = (pages : ℕ) (list : List ℕ) (at after : ℕ → ℕ) → HasReturn pages list at after → All (λ page. page < pages) list
-    → (id : ℕ) → 1 ≤ id → id ≤ 256 → (TakesRoot pages list at id → ⊥) → entry_fails pages at id ≡ false → entry_fails pages after id ≡ false
+    → (id : ℕ) → 1 ≤ id → id ≤ LAST_COFFER → (TakesRoot pages list at id → ⊥) → entry_fails pages at id ≡ false → entry_fails pages after id ≡ false
 
 -- they keep the rule of the path buckets
 abbrev pub ReturnKeepsBuckets : Type 0

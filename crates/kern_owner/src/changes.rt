@@ -2,14 +2,15 @@
 ghost use Rattle.std.specs.Prelude.{◌≡◌, ◌<◌, ◌≤◌, length, take, nat_eq, All, IfOk, IfErr};
 ghost use Rattle.std.specs.List.{IsDistinct};
 ghost use Rattle.zo_layout.specs.Layout as layout;
-ghost use Rattle.tr_types.specs.KernelView as view;
-ghost use Rattle.tr_types.specs.Kernel as kernel;
-ghost use Rattle.tr_types.specs.KernelRules.{IsSoundKernel};
+ghost use Rattle.kern_model.specs.KernelView as view;
+ghost use Rattle.kern_model.specs.Kernel as kernel;
+ghost use Rattle.kern_model.specs.KernelRules.{IsSoundKernel};
 ghost use Rattle.kern_owner.specs.Owners as spec;
 ghost use Rattle.kern_owner.specs.Refusal.{IsRefused};
 
 use crate::handed::{Grant, OwnerFault, Pairs};
-use crate::owners::{NOBODY, first_pages, free_up_to};
+use crate::owners::{first_pages, free_up_to};
+use kern_model::NOBODY;
 use pm_words::{NoMemory, Words};
 use sqlite_items::Items;
 use std::alloc::Global;

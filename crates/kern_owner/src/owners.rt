@@ -1,16 +1,14 @@
 // Whose each page is.
 ghost use Rattle.std.specs.Prelude.{◌≡◌, ◌<◌, length, take, min, IfOk};
-ghost use Rattle.tr_types.specs.KernelView as view;
-ghost use Rattle.tr_types.specs.Kernel as kernel;
-ghost use Rattle.tr_types.specs.KernelRules.{IsSoundKernel};
+ghost use Rattle.kern_model.specs.KernelView as view;
+ghost use Rattle.kern_model.specs.Kernel as kernel;
+ghost use Rattle.kern_model.specs.KernelRules.{IsSoundKernel};
 
 use kern_journal::kernel_word;
+use kern_model::NOBODY;
 use pm_words::{NoMemory, Words};
 use std::alloc::Global;
 use zo_layout::owner_word;
-
-/// What the owner table says of a page that is nobody's.
-pub const NOBODY: u16 = 0;
 
 /// Whose a page is: 0 nobody's, 1 to 256 a coffer's by its number, 65,535 the kernel's. Takes no memory.
 pub fn owner(words: &Words, page: u32) -> u16

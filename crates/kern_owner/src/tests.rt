@@ -1,18 +1,15 @@
 // Pages of a new image of 64 pages: the first 38 are the kernel's, 38 and 39 the root coffer's, and the
 // others nobody's. The owner table is page 4, from address 16,384 on.
 ghost use Rattle.std.specs.Prelude.{◌≡◌, IfOk};
-ghost use Rattle.tr_types.specs.KernelView as view;
-ghost use Rattle.tr_types.specs.KernelRules.{IsSoundKernel};
+ghost use Rattle.kern_model.specs.KernelView as view;
+ghost use Rattle.kern_model.specs.KernelRules.{IsSoundKernel};
 
 use super::*;
 use kern_journal::new_image;
+use kern_model::{KERNEL, ROOT_COFFER};
 use pm_words::{NoMemory, Words};
 use std::alloc::Global;
 use std::test::Fail;
-
-const ROOT: u16 = 1;
-
-const KERNEL: u16 = 65535;
 
 fn new_words(alloc: Global) -> Result<Words, NoMemory>
     ensures sound { IfOk result (λ w. IsSoundKernel w) }
@@ -39,7 +36,7 @@ fn pages_of_a_new_image_are_the_kernels_the_root_coffers_and_free(
 ) -> Result<(), Fail> {
     let words = new_words(rt.alloc())?;
     assert_eq!(rt; owner(&words, 37), KERNEL);
-    assert_eq!(rt; owner(&words, 38), ROOT);
+    assert_eq!(rt; owner(&words, 38), ROOT_COFFER);
     assert_eq!(rt; owner(&words, 40), 0);
     assert_eq!(rt; free_pages(&words), 24);
     Ok(())
@@ -48,7 +45,7 @@ fn pages_of_a_new_image_are_the_kernels_the_root_coffers_and_free(
 #[test]
 fn the_root_coffer_has_two_pages(rt: HostRuntime) -> Result<(), Fail> {
     let words = new_words(rt.alloc())?;
-    let pages = pages_of(rt.alloc(), &words, ROOT)?;
+    let pages = pages_of(rt.alloc(), &words, ROOT_COFFER)?;
     assert_eq!(rt; pages.as_slice(), [38, 39].as_slice());
     Ok(())
 }
@@ -92,7 +89,7 @@ fn pages_go_back_in_order_of_address(rt: HostRuntime) -> Result<(), Fail> {
 #[test]
 fn a_committed_pair_is_read_before_the_word_itself(rt: HostRuntime) -> Result<(), Fail> {
     let words = words_with_a_pair(rt.alloc())?;
-    assert_eq!(rt; owner(&words, 50), ROOT);
+    assert_eq!(rt; owner(&words, 50), ROOT_COFFER);
     assert_eq!(rt; free_pages(&words), 23);
     Ok(())
 }

@@ -4,11 +4,11 @@ use Rattle.std.specs.Prelude.{nat_le}
 use Rattle.std.proofs.lemmas.Bool.{leb-true, and_parts}
 use Rattle.pm_words.specs.Word.{Word}
 use Rattle.zo_layout.specs.Layout.{kernel_pages}
-use Rattle.tr_types.specs.KernelView.{pages_of}
-use Rattle.tr_types.specs.Journal.{kernel_word}
-use Rattle.tr_types.specs.KernelTables.{owner_in}
-use Rattle.tr_types.specs.Kernel.{kernel_owner}
-use Rattle.tr_types.specs.KernelRules.{IsSoundKernel}
+use Rattle.kern_model.specs.KernelView.{pages_of}
+use Rattle.kern_model.specs.Journal.{kernel_word}
+use Rattle.kern_model.specs.KernelTables.{owner_in}
+use Rattle.kern_model.specs.Kernel.{kernel_owner}
+use Rattle.kern_model.specs.KernelRules.{IsSoundKernel}
 use Rattle.kern_owner.proofs.SoundLemmas.{OwnerCase, owner_case}
 use Rattle.kern_owner.proofs.SoundLemmas.OwnerCase.{Kernels, Nobodys, Coffers}
 use Rattle.kern_pages.specs.Owners.{owners_of}

@@ -1,9 +1,10 @@
 // The pages of each owner.
 ghost use Rattle.std.specs.Prelude.{◌≡◌, ◌<◌, ◌≤◌, length, take, slice_index, slice_set, IfOk, OnOk, OnErr};
-ghost use Rattle.tr_types.specs.KernelRules.{IsSoundKernel};
+ghost use Rattle.kern_model.specs.KernelRules.{IsSoundKernel};
 ghost use Rattle.kern_pages.specs.Owners.{owners_of, pages_with};
 
-use crate::sets::{LAST_COFFER, PageSets};
+use crate::sets::PageSets;
+use kern_model::LAST_COFFER;
 use kern_owner::owner;
 use pm_words::{NoMemory, Words};
 use std::alloc::Global;

@@ -6,13 +6,11 @@ ghost use Rattle.std.specs.BTreeSet.{insert_key};
 ghost use Rattle.std.specs.Set.{remove_key};
 ghost use Rattle.kern_pages.specs.Sets.{AreEmpty, set_of};
 
+use kern_model::LAST_COFFER;
 use pm_words::NoMemory;
 use std::alloc::Global;
 use std::collections::BTreeSet;
 use std::marker::Model;
-
-// The greatest number of a coffer.
-pub const LAST_COFFER: u16 = 256;
 
 // The pages of nobody and of each coffer, by its number.
 #[derive(Drop)]

@@ -1,20 +1,15 @@
 // Pages of a new image of 64 pages: the first 38 are the kernel's, 38 and 39 the root coffer's, and the
 // others nobody's.
 ghost use Rattle.std.specs.Prelude.{◌≡◌, ℕ, ◌<◌, ◌≤◌, length, slice_index, IfOk};
-ghost use Rattle.tr_types.specs.KernelView as view;
-ghost use Rattle.tr_types.specs.KernelRules.{IsSoundKernel};
+ghost use Rattle.kern_model.specs.KernelView as view;
+ghost use Rattle.kern_model.specs.KernelRules.{IsSoundKernel};
 
 use super::*;
 use kern_journal::new_image;
+use kern_model::{KERNEL, NOBODY, ROOT_COFFER};
 use pm_words::{NoMemory, Words};
 use std::alloc::Global;
 use std::test::Fail;
-
-const NOBODY: u16 = 0;
-
-const ROOT: u16 = 1;
-
-const KERNEL: u16 = 65535;
 
 fn new_words(alloc: Global) -> Result<Words, NoMemory>
     ensures sound { IfOk result (λ w. IsSoundKernel w) }
@@ -37,8 +32,8 @@ fn a_new_image_has_pages_of_the_kernel_of_the_root_coffer_and_of_nobody(
 ) -> Result<(), Fail> {
     let owners = new_owners(rt.alloc())?;
     assert_eq!(rt; owners.owner(37), KERNEL);
-    assert_eq!(rt; owners.owner(38), ROOT);
-    assert_eq!(rt; owners.count(ROOT), 2);
+    assert_eq!(rt; owners.owner(38), ROOT_COFFER);
+    assert_eq!(rt; owners.count(ROOT_COFFER), 2);
     assert_eq!(rt; owners.count(NOBODY), 24);
     assert_eq!(rt; owners.count(256), 0);
     Ok(())
@@ -48,7 +43,7 @@ fn a_new_image_has_pages_of_the_kernel_of_the_root_coffer_and_of_nobody(
 fn the_first_pages_are_the_least(rt: HostRuntime) -> Result<(), Fail> {
     let owners = new_owners(rt.alloc())?;
     let free = owners.first(NOBODY, 3)?;
-    let roots = owners.first(ROOT, 3)?;
+    let roots = owners.first(ROOT_COFFER, 3)?;
     let none = owners.first(NOBODY, 0)?;
     assert_eq!(rt; free.as_slice(), [40, 41, 42].as_slice());
     assert_eq!(rt; roots.as_slice(), [38, 39].as_slice());
@@ -73,7 +68,7 @@ fn a_page_that_goes_back_stands_before_the_greater_ones(rt: HostRuntime) -> Resu
     let mut owners = new_owners(rt.alloc())?;
     owners.pass(38, NOBODY)?;
     let free = owners.first(NOBODY, 2)?;
-    let pages = owners.pages(ROOT)?;
+    let pages = owners.pages(ROOT_COFFER)?;
     assert_eq!(rt; free.as_slice(), [38, 40].as_slice());
     assert_eq!(rt; pages.as_slice(), [39].as_slice());
     Ok(())
@@ -82,9 +77,9 @@ fn a_page_that_goes_back_stands_before_the_greater_ones(rt: HostRuntime) -> Resu
 #[test]
 fn a_pass_to_the_owner_that_a_page_has_changes_nothing(rt: HostRuntime) -> Result<(), Fail> {
     let mut owners = new_owners(rt.alloc())?;
-    owners.pass(39, ROOT)?;
-    let pages = owners.pages(ROOT)?;
-    assert_eq!(rt; owners.owner(39), ROOT);
+    owners.pass(39, ROOT_COFFER)?;
+    let pages = owners.pages(ROOT_COFFER)?;
+    assert_eq!(rt; owners.owner(39), ROOT_COFFER);
     assert_eq!(rt; pages.as_slice(), [38, 39].as_slice());
     Ok(())
 }

@@ -6,14 +6,14 @@ use Rattle.std.proofs.lemmas.Bool.{lt-ltb, ltb-true, or_parts, and_parts, not-fa
 use Rattle.std.proofs.lemmas.List.Elements.{All-nil, All-cons}
 use Rattle.std.specs.List.{list_any}
 use Rattle.pm_words.specs.Word.{Word}
-use Rattle.tr_types.specs.KernelView.{pages_of}
-use Rattle.tr_types.specs.Kernel.{kernel_owner}
-use Rattle.tr_types.specs.KernelCalls.{Row, first_due, owns_page, is_bad_page, is_listed_twice, not_yours}
+use Rattle.kern_model.specs.KernelView.{pages_of}
+use Rattle.kern_model.specs.Kernel.{kernel_owner}
+use Rattle.kern_model.specs.KernelCalls.{Row, first_due, owns_page, is_bad_page, is_listed_twice, not_yours}
 use Rattle.tr_types.specs.declared.kernel_call.KernAnswer.{KernAnswer}
 use Rattle.tr_types.specs.declared.kernel_call.KernAnswer.TheVariants.{NoMemory, NotYours}
 use Rattle.kern_pages.specs.Owners.{owners_of}
 use Rattle.kern_pages.proofs.TellsLemmas.{tells}
-use Rattle.kern_plans.specs.Parts.{Passes}
+use Rattle.kern_plans.specs.Refusals.{TellsFirstDue}
 use Rattle.kern_plans.specs.Plans.{Plans}
 
 -- where the first ones aren't due, the others count
@@ -33,30 +33,30 @@ first_alone None = refl
 first_alone (Some refusal) = refl
 
 -- a refusal that is due
-pub given_refused : (X : Type 0) (refusals : List (Option KernAnswer)) (refusal : KernAnswer) → first_due refusals ≡ Some refusal → Passes {X = X} refusals (Err refusal)
+pub given_refused : (X : Type 0) (refusals : List (Option KernAnswer)) (refusal : KernAnswer) → first_due refusals ≡ Some refusal → TellsFirstDue {X = X} refusals (Err refusal)
 given_refused X refusals NoMemory is = tt
 given_refused X refusals refusal is = is
 
 -- refused by one of the first ones
-pub refused_first : (X Y : Type 0) (before after : List (Option KernAnswer)) (refusal : KernAnswer) → Passes {X = X} before (Err refusal) → Passes {X = Y} (before ++ after) (Err refusal)
+pub refused_first : (X Y : Type 0) (before after : List (Option KernAnswer)) (refusal : KernAnswer) → TellsFirstDue {X = X} before (Err refusal) → TellsFirstDue {X = Y} (before ++ after) (Err refusal)
 refused_first X Y before after NoMemory is = tt
 refused_first X Y before after refusal is = refused_on before after refusal is
 
 -- refused, or not, by the later ones
-pub refused_later : (X : Type 0) (before after : List (Option KernAnswer)) (result : Result X KernAnswer) → first_due before ≡ None → Passes after result → Passes (before ++ after) result
+pub refused_later : (X : Type 0) (before after : List (Option KernAnswer)) (result : Result X KernAnswer) → first_due before ≡ None → TellsFirstDue after result → TellsFirstDue (before ++ after) result
 refused_later X before after (Ok x) none later = passed_on before after none ∙ later
 refused_later X before after (Err NoMemory) none later = tt
 refused_later X before after (Err refusal) none later = passed_on before after none ∙ later
 
 -- refused by some in the middle, at the exit of a `?`
 pub stopped : (X Y : Type 0) (ahead before after : List (Option KernAnswer)) (refusal given : KernAnswer) (result : Result Y KernAnswer) → result ≡ Err given → given ≡ refusal
-    → first_due ahead ≡ None → Passes {X = X} before (Err refusal) → Passes {X = Y} (ahead ++ (before ++ after)) result
+    → first_due ahead ≡ None → TellsFirstDue {X = X} before (Err refusal) → TellsFirstDue {X = Y} (ahead ++ (before ++ after)) result
 stopped X Y ahead before after refusal given result is same none refused =
-    subst (λ (r : Result Y KernAnswer). Passes {X = Y} (ahead ++ (before ++ after)) r) (sym (is ∙ ap (λ (r : KernAnswer). Err r) same))
+    subst (λ (r : Result Y KernAnswer). TellsFirstDue {X = Y} (ahead ++ (before ++ after)) r) (sym (is ∙ ap (λ (r : KernAnswer). Err r) same))
     (refused_later Y ahead (before ++ after) (Err refusal) none (refused_first X Y before after refusal refused))
 
 -- a plan is refused as its row's refusals say
-pub refused_plan : (X : Type 0) (row : Row) (refusal : KernAnswer) → Passes {X = X} row.refusals (Err refusal) → Plans row (Err refusal)
+pub refused_plan : (X : Type 0) (row : Row) (refusal : KernAnswer) → TellsFirstDue {X = X} row.refusals (Err refusal) → Plans row (Err refusal)
 refused_plan X row NoMemory is = tt
 refused_plan X row refusal is = is
 

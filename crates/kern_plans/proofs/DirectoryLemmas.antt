@@ -7,9 +7,9 @@ use Rattle.std.proofs.lemmas.Bool.{and_parts, and_from, eq-eqb, ne_eqb, eqb-true
 use Rattle.std.proofs.lemmas.List.{take_at, get_or_at, get_or-append_right, length-append, append_assoc, length_push}
 use Rattle.std.proofs.lemmas.List.Elements.{All-nil, All-cons, All-head, All-tail, filter_agree}
 use Rattle.std.proofs.lemmas.List.Sums.{suffix_len_is}
-use Rattle.tr_types.specs.KernelTables.{Coffer}
+use Rattle.kern_model.specs.KernelTables.{Coffer}
 use Rattle.tr_types.specs.Paths.{same_text, is_path_text, begins_with, lies_under, before_last_slash, directory_path}
-use Rattle.tr_types.specs.PathMap.{longest, coffer_of_path, coffer_above, is_coffer}
+use Rattle.kern_model.specs.PathMap.{longest, coffer_of_path, coffer_above, is_coffer}
 use Rattle.kern_roots.proofs.ReadingPaths.{same_when, differ_when}
 use Rattle.kern_roots.proofs.ReadingTexts.{slash, Begins, Whole, GoesOn, FromRoot, begins_how, begins_so, path_starts, path_size}
 

@@ -4,11 +4,11 @@ use Rattle.std.specs.Prelude.{nat_eq, not}
 use Rattle.std.specs.List.{range_with_len}
 use Rattle.std.proofs.lemmas.Bool.{ne_eqb}
 use Rattle.pm_words.specs.Word.{Word}
-use Rattle.tr_types.specs.KernelView.{pages_of}
-use Rattle.tr_types.specs.Journal.{kernel_word}
-use Rattle.tr_types.specs.KernelTables.{all_ids, stands_in}
-use Rattle.tr_types.specs.PathMap.{free_id}
-use Rattle.tr_types.specs.KernelCalls.{next_id}
+use Rattle.kern_model.specs.KernelView.{pages_of}
+use Rattle.kern_model.specs.Journal.{kernel_word}
+use Rattle.kern_model.specs.KernelTables.{all_ids, stands_in}
+use Rattle.kern_model.specs.PathMap.{free_id}
+use Rattle.kern_model.specs.KernelCalls.{next_id}
 
 found_from : (test : ℕ → Bool) (start count id : ℕ) → find test (range_with_len start count) ≡ Some id → start ≤ id
 found_from test start zero id is = cc

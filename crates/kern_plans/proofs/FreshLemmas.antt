@@ -4,12 +4,12 @@ use Rattle.std.specs.Prelude.{nat_lt, IfOk}
 use Rattle.std.proofs.lemmas.Bool.{lt-ltb, le-ltb}
 use Rattle.std.proofs.lemmas.List.{get_or-take, length-take}
 use Rattle.pm_words.specs.Word.{Word}
-use Rattle.tr_types.specs.KernelView.{pages_of}
-use Rattle.tr_types.specs.Journal.{kernel_word}
-use Rattle.tr_types.specs.Kernel.{spare_pages}
-use Rattle.tr_types.specs.PathMap.{added_pairs}
-use Rattle.tr_types.specs.KernelCalls.{Row, first_due, first_page, next_id, pages_short, owner_pairs, link_pair}
-use Rattle.tr_types.specs.KernelCalls as calls
+use Rattle.kern_model.specs.KernelView.{pages_of}
+use Rattle.kern_model.specs.Journal.{kernel_word}
+use Rattle.kern_model.specs.Kernel.{spare_pages}
+use Rattle.kern_model.specs.PathMap.{added_pairs}
+use Rattle.kern_model.specs.KernelCalls.{Row, first_due, first_page, next_id, pages_short, owner_pairs, link_pair}
+use Rattle.kern_model.specs.KernelCalls as calls
 use Rattle.tr_types.specs.declared.permission.Cred.{Cred}
 use Rattle.zo_layout.specs.Layout.{page_at, page_kind}
 use Rattle.tr_types.specs.declared.permission.Perm.{Perm}
@@ -19,7 +19,8 @@ use Rattle.kern_roots.specs.declared.types.Root.{Root}
 use Rattle.kern_roots.specs.declared.types.RootState.TheVariants.{Standing}
 use Rattle.kern_roots.specs.Changes.{new_coffer}
 use Rattle.kern_plans.specs.Plans.{Plan, Plans}
-use Rattle.kern_plans.specs.Parts.{Passes, entry_refusals, entry_pairs, plan_of, fresh_pairs, fresh_plan}
+use Rattle.kern_plans.specs.Refusals.{TellsFirstDue, entry_refusals}
+use Rattle.kern_plans.specs.Stored.{entry_pairs, plan_of, fresh_pairs, fresh_plan}
 use Rattle.kern_plans.proofs.CheckLemmas.{passed_on, refused_plan}
 use Rattle.kern_plans.proofs.RowLemmas.{lets_pass, refuses_so, skips}
 
@@ -75,7 +76,7 @@ fresh_is ws words id control root kind path granted perm added slice pairs link 
         ∙ ap (λ (ps : List (ℕ × ℕ)). fresh_pairs words (next_id words) (take 2 (spare_pages words)) ps kind link) entry
 
 -- a plan that passes all refusals of its row is the row's
-pub plans_so : (row : Row) (result : Result Plan KernAnswer) → Passes row.refusals result → IfOk result (λ plan. plan ≡ plan_of row) → length row.granted ≤ 1024 → Plans row result
+pub plans_so : (row : Row) (result : Result Plan KernAnswer) → TellsFirstDue row.refusals result → IfOk result (λ plan. plan ≡ plan_of row) → length row.granted ≤ 1024 → Plans row result
 plans_so row (Ok plan) passes is few = record {
   due = passes;
   answer = λ i. (is i).answer;

@@ -3,8 +3,8 @@ use Rattle.std.proofs.Common.{ℕ, ◌<◌, List, take, nat_eq}
 use Rattle.std.specs.Prelude.{All}
 use Rattle.std.proofs.lemmas.List.Elements.{All-take}
 use Rattle.pm_words.specs.Word.{Word}
-use Rattle.tr_types.specs.KernelView.{pages_of}
-use Rattle.tr_types.specs.Kernel.{kernel_owner, coffer_pages, spare_pages}
+use Rattle.kern_model.specs.KernelView.{pages_of}
+use Rattle.kern_model.specs.Kernel.{kernel_owner, coffer_pages, spare_pages}
 use Rattle.kern_owner.proofs.RangeLemmas.{within}
 
 pub owned_inside : (words : List Word) (id : ℕ) → All (λ page. page < pages_of words) (coffer_pages words id)

@@ -6,14 +6,14 @@ use Rattle.std.proofs.lemmas.List.Recursion.{is_count_by}
 use Rattle.std.proofs.lemmas.Bool.{and_parts, or_cases}
 use Rattle.std.proofs.lemmas.Slice.Eq.{bytes_eq-Decides}
 use Rattle.pm_words.specs.Word.{Word}
-use Rattle.tr_types.specs.Tree.{parts_of, in_first, names_of}
+use Rattle.tr_types.specs.Paths.{parts_of, in_first, names_of}
 use Rattle.tr_types.specs.Paths.{same_text, is_path_text, is_name_byte, is_name_text, are_names_after, begins_with}
-use Rattle.tr_types.specs.KernelView.{pages_of}
-use Rattle.tr_types.specs.Journal.{kernel_word}
-use Rattle.tr_types.specs.Kernel.{coffers}
-use Rattle.tr_types.specs.KernelTables.{Coffer, stands_in, coffer_in, coffers_in}
-use Rattle.tr_types.specs.PathMap.{longer, longest, coffer_of_path, coffer_with}
-use Rattle.tr_types.specs.KernelCalls.{found_for, or_none}
+use Rattle.kern_model.specs.KernelView.{pages_of}
+use Rattle.kern_model.specs.Journal.{kernel_word}
+use Rattle.kern_model.specs.Kernel.{coffers}
+use Rattle.kern_model.specs.KernelTables.{Coffer, stands_in, coffer_in, coffers_in}
+use Rattle.kern_model.specs.PathMap.{longer, longest, coffer_of_path, coffer_with}
+use Rattle.kern_model.specs.KernelCalls.{found_for, or_none}
 use Rattle.tr_types.specs.declared.kernel_call.FoundAt.{FoundAt}
 use Rattle.kern_roots.specs.Reading.{root_of, found_of}
 use Rattle.kern_roots.specs.declared.types.Found.{Found}

@@ -6,31 +6,32 @@ use Rattle.std.proofs.lemmas.Bool.{and_parts, or_parts, not-false, ltb-true, leb
 use Rattle.std.proofs.lemmas.List.Elements.{filter_more}
 use Rattle.std.proofs.lemmas.List.Recursion.{is_count_by}
 use Rattle.pm_words.specs.Word.{Word}
-use Rattle.tr_types.specs.KernelView.{pages_of}
-use Rattle.tr_types.specs.Kernel.{kernel_owner}
-use Rattle.tr_types.specs.KernelTables.{is_id, stands_in, coffers_in}
-use Rattle.tr_types.specs.PathMap.{coffer_with}
-use Rattle.tr_types.specs.KernelCalls.{Row, first_due, owns_page, is_bad_page, is_listed_twice, bad_address_page, not_yours, pages_refused, unlisted}
+use Rattle.kern_model.specs.KernelView.{pages_of}
+use Rattle.kern_model.specs.Kernel.{kernel_owner}
+use Rattle.kern_model.specs.KernelTables.{is_id, stands_in, coffers_in}
+use Rattle.kern_model.specs.PathMap.{coffer_with}
+use Rattle.kern_model.specs.KernelCalls.{Row, first_due, owns_page, is_bad_page, is_listed_twice, bad_address_page, not_yours, pages_refused, unlisted}
 use Rattle.tr_types.specs.declared.kernel_call.KernAnswer.{KernAnswer}
 use Rattle.kern_roots.specs.Entries.{has_id}
 use Rattle.kern_roots.proofs.ReadingCoffers.{coffer_isnt}
 use Rattle.kern_plans.specs.Plans.{Plan, Plans}
-use Rattle.kern_plans.specs.Parts.{Passes, plan_of}
+use Rattle.kern_plans.specs.Refusals.{TellsFirstDue}
+use Rattle.kern_plans.specs.Stored.{plan_of}
 use Rattle.kern_plans.proofs.CheckLemmas.{passed_on, refused_first, refused_later, refused_plan}
 
 -- Rows.
 
 -- refused by some in the middle, at the exit of a `?`
 pub plan_stopped : (X : Type 0) (row : Row) (before part after : List (Option KernAnswer)) (refusal given : KernAnswer) (result : Result Plan KernAnswer)
-    → row.refusals ≡ before ++ (part ++ after) → result ≡ Err given → given ≡ refusal → first_due before ≡ None → Passes {X = X} part (Err refusal) → Plans row result
+    → row.refusals ≡ before ++ (part ++ after) → result ≡ Err given → given ≡ refusal → first_due before ≡ None → TellsFirstDue {X = X} part (Err refusal) → Plans row result
 plan_stopped X row before part after refusal given result is err same none refused =
     subst (λ (r : Result Plan KernAnswer). Plans row r) (sym (err ∙ ap (λ (r : KernAnswer). Err r) same))
     (refused_plan X row refusal
-    (subst (λ (rs : List (Option KernAnswer)). Passes {X = X} rs (Err refusal)) (sym is) (refused_later X before (part ++ after) (Err refusal) none (refused_first X X part after refusal refused))))
+    (subst (λ (rs : List (Option KernAnswer)). TellsFirstDue {X = X} rs (Err refusal)) (sym is) (refused_later X before (part ++ after) (Err refusal) none (refused_first X X part after refusal refused))))
 
 -- the last part of a row's refusals, and its plan
 pub plan_from : (row : Row) (before part : List (Option KernAnswer)) (plan : Plan) (result : Result Plan KernAnswer) → row.refusals ≡ before ++ part → first_due before ≡ None
-    → Passes part result → IfOk result (λ p. p ≡ plan) → plan ≡ plan_of row → length plan.granted ≤ 1024 → Plans row result
+    → TellsFirstDue part result → IfOk result (λ p. p ≡ plan) → plan ≡ plan_of row → length plan.granted ≤ 1024 → Plans row result
 plan_from row before part plan (Ok p) is none passes same plan_is few = record {
   due = ap first_due is ∙ passed_on before part none ∙ passes;
   answer = ap (λ (q : Plan). q.answer) (same ∙ plan_is);
@@ -39,7 +40,7 @@ plan_from row before part plan (Ok p) is none passes same plan_is few = record {
   few = let size = ap (λ (q : Plan). length q.granted) same in omega arith;
 }
 plan_from row before part plan (Err refusal) is none passes same plan_is few =
-    refused_plan Plan row refusal (subst (λ (rs : List (Option KernAnswer)). Passes {X = Plan} rs (Err refusal)) (sym is) (refused_later Plan before part (Err refusal) none passes))
+    refused_plan Plan row refusal (subst (λ (rs : List (Option KernAnswer)). TellsFirstDue {X = Plan} rs (Err refusal)) (sym is) (refused_later Plan before part (Err refusal) none passes))
 
 -- one of two rows
 pub plan_of_two : (test : Bool) (row other : Row) (result : Result Plan KernAnswer) → (test ≡ true → Plans row result) → (test ≡ false → Plans other result) → Plans (cond test row other) result
@@ -142,6 +143,6 @@ used_most pages at id used = by (has_id pages at id) refl
 
 -- so it is where a check of them and of more passes
 pub checked_inside : (words : List Word) (parent id : ℕ) (addrs kept pages : List ℕ) (rest : List (Option KernAnswer)) (result : Result (Unit {0}) KernAnswer)
-    → Passes (pages_refused words parent addrs id kept pages ∷ rest) result → OnOk result (All (λ page. page < pages_of words) pages)
+    → TellsFirstDue (pages_refused words parent addrs id kept pages ∷ rest) result → OnOk result (All (λ page. page < pages_of words) pages)
 checked_inside words parent id addrs kept pages rest (Ok passed) passes = listed_inside words parent id addrs kept pages (two_due (pages_refused words parent addrs id kept pages) rest passes).0
 checked_inside words parent id addrs kept pages rest (Err refusal) passes = tt

@@ -3,14 +3,14 @@ use Rattle.std.proofs.Common.{◌≡◌, ◌∙◌, ℕ, ◌≤◌, Bool, true, 
 use Rattle.std.specs.Prelude.{option_map, is_some, nat_le}
 use Rattle.std.proofs.lemmas.Bool.{leb-true, and_parts}
 use Rattle.pm_words.specs.Word.{Word}
-use Rattle.tr_types.specs.KernelView.{pages_of}
-use Rattle.tr_types.specs.Journal.{kernel_word}
-use Rattle.tr_types.specs.Kernel.{coffers}
-use Rattle.tr_types.specs.KernelTables.{Coffer, is_id, stands_in}
-use Rattle.tr_types.specs.KernelRules.{IsSoundKernel}
+use Rattle.kern_model.specs.KernelView.{pages_of}
+use Rattle.kern_model.specs.Journal.{kernel_word}
+use Rattle.kern_model.specs.Kernel.{coffers}
+use Rattle.kern_model.specs.KernelTables.{Coffer, is_id, stands_in}
+use Rattle.kern_model.specs.KernelRules.{IsSoundKernel}
 use Rattle.tr_types.specs.Paths.{is_path_text}
-use Rattle.tr_types.specs.PathMap.{coffer_with, dropped_pairs}
-use Rattle.tr_types.specs.KernelCalls.{is_there_with, named, or_none}
+use Rattle.kern_model.specs.PathMap.{coffer_with, dropped_pairs}
+use Rattle.kern_model.specs.KernelCalls.{is_there_with, named, or_none}
 use Rattle.kern_roots.specs.Reading.{root_of}
 use Rattle.kern_roots.specs.Changes.{Changes, is_used}
 use Rattle.kern_roots.specs.Entries.{has_id, has_coffer, coffer_of}

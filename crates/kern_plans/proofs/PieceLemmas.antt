@@ -4,11 +4,11 @@ use Rattle.std.specs.Prelude.{nat_lt}
 use Rattle.std.proofs.lemmas.Bool.{lt-ltb, le-ltb}
 use Rattle.std.proofs.lemmas.List.{get_or-take}
 use Rattle.pm_words.specs.Word.{Word}
-use Rattle.tr_types.specs.KernelView.{pages_of}
-use Rattle.tr_types.specs.Journal.{kernel_word}
-use Rattle.tr_types.specs.Kernel.{spare_pages}
-use Rattle.tr_types.specs.PathMap.{added_pairs}
-use Rattle.tr_types.specs.KernelCalls.{first_due, first_page, next_id, pages_short}
+use Rattle.kern_model.specs.KernelView.{pages_of}
+use Rattle.kern_model.specs.Journal.{kernel_word}
+use Rattle.kern_model.specs.Kernel.{spare_pages}
+use Rattle.kern_model.specs.PathMap.{added_pairs}
+use Rattle.kern_model.specs.KernelCalls.{first_due, first_page, next_id, pages_short}
 use Rattle.tr_types.specs.declared.permission.Perm.{Perm}
 use Rattle.tr_types.specs.declared.kernel_call.KernAnswer.{KernAnswer}
 use Rattle.tr_types.specs.declared.kernel_call.KernAnswer.TheVariants.{NoPages, Made}
@@ -16,7 +16,8 @@ use Rattle.kern_roots.specs.declared.types.Root.{Root}
 use Rattle.kern_roots.specs.declared.types.RootState.TheVariants.{Standing}
 use Rattle.kern_roots.specs.Changes.{new_coffer}
 use Rattle.kern_plans.specs.Plans.{Plan}
-use Rattle.kern_plans.specs.Parts.{entry_refusals, entry_pairs, piece_pairs, piece_plan}
+use Rattle.kern_plans.specs.Refusals.{entry_refusals}
+use Rattle.kern_plans.specs.Stored.{entry_pairs, piece_pairs, piece_plan}
 use Rattle.kern_plans.proofs.CheckLemmas.{passed_on}
 use Rattle.kern_plans.proofs.RowLemmas.{lets_pass, refuses_so, skips}
 

@@ -1,6 +1,6 @@
 -- Refusals of a row, one after another.
 use Rattle.std.proofs.Common.{◌≡◌, Bool, true, false, List, ◌∷◌, Option, Some, None, ap}
-use Rattle.tr_types.specs.KernelCalls.{first_due, refused_where}
+use Rattle.kern_model.specs.KernelCalls.{first_due, refused_where}
 use Rattle.tr_types.specs.declared.kernel_call.KernAnswer.{KernAnswer}
 
 -- one that isn't due tells nothing

@@ -2,17 +2,19 @@
 use Rattle.std.proofs.Common.{◌≡◌, ℕ, true, false, List, [], ◌∷◌, ◌++◌, take, None, Result, Ok, Err, IfOk, refl, sym, ap, ◌∙◌, arith, length}
 use Rattle.std.proofs.lemmas.Bool.{eq-eqb, eqb-true}
 use Rattle.pm_words.specs.Word.{Word}
-use Rattle.tr_types.specs.KernelView.{pages_of}
-use Rattle.tr_types.specs.Journal.{kernel_word}
-use Rattle.tr_types.specs.Kernel.{spare_pages}
-use Rattle.tr_types.specs.PathMap.{added_pairs}
-use Rattle.tr_types.specs.KernelCalls.{Callers, Row, row_of_maps, first_due, named, next_id, pages_short, control_and_root, is_same_mode, split_coffer, split_refused, split_row}
+use Rattle.kern_model.specs.KernelView.{pages_of}
+use Rattle.kern_model.specs.Journal.{kernel_word}
+use Rattle.kern_model.specs.Kernel.{spare_pages}
+use Rattle.kern_model.specs.PathMap.{added_pairs}
+use Rattle.kern_model.specs.KernelCalls.{Callers, Row, row_of_maps, first_due, named, next_id, pages_short, control_and_root, is_same_mode, split_coffer, split_refused, split_row}
 use Rattle.tr_types.specs.declared.permission.Perm.{Perm}
 use Rattle.tr_types.specs.declared.kernel_call.Holder.{Holder}
 use Rattle.tr_types.specs.declared.kernel_call.KernAnswer.{KernAnswer}
 use Rattle.tr_types.specs.declared.kernel_call.KernAnswer.TheVariants.{Same, Made}
 use Rattle.kern_plans.specs.Plans.{Plan, Plans}
-use Rattle.kern_plans.specs.Parts.{Passes, entry_refusals, linking_of, piece_refusals, piece_pairs, piece_plan}
+use Rattle.kern_plans.specs.Links.{linking_of}
+use Rattle.kern_plans.specs.Refusals.{TellsFirstDue, entry_refusals, piece_refusals}
+use Rattle.kern_plans.specs.Stored.{piece_pairs, piece_plan}
 use Rattle.kern_plans.proofs.CheckLemmas.{passed_on}
 use Rattle.kern_plans.proofs.MoveLemmas.{plan_stopped, plan_from, plan_of_two, few_first}
 
@@ -34,7 +36,7 @@ other_row callers words holders thread now id path pages mode link guard = recor
 -- it is refused before the mode counts
 pub split_stopped : (callers : Callers) (words : List Word) (holders : List Holder) (thread now id : ℕ) (path pages : List ℕ) (mode : ℕ) (link : ℕ × ℕ × ℕ) (guard : ℕ × ℕ)
     (refusal given : KernAnswer) (result : Result Plan KernAnswer) → result ≡ Err given → given ≡ refusal
-    → Passes {X = Unit {0}} (split_refused callers words holders thread id) (Err refusal) → Plans (split_row callers words holders thread now id path pages mode link guard) result
+    → TellsFirstDue {X = Unit {0}} (split_refused callers words holders thread id) (Err refusal) → Plans (split_row callers words holders thread now id path pages mode link guard) result
 split_stopped callers words holders thread now id path pages mode link guard refusal given result err same refused =
     plan_of_two (is_same_mode words id mode) (same_row callers words holders thread id) (other_row callers words holders thread now id path pages mode link guard) result
     (λ is. plan_stopped (Unit {0}) (same_row callers words holders thread id) [] (split_refused callers words holders thread id) [] refusal given result refl err same refl refused)
@@ -60,7 +62,7 @@ split_same callers words holders thread now id path pages mode link guard plan p
 pub split_refused_later : (callers : Callers) (words : List Word) (holders : List Holder) (thread now id : ℕ) (path pages : List ℕ) (mode : ℕ) (link : ℕ × ℕ × ℕ) (guard : ℕ × ℕ)
     (refusal given : KernAnswer) (result : Result Plan KernAnswer) → first_due (split_refused callers words holders thread id) ≡ None → ((named words id).perm.mode ≡ mode → ⊥)
     → result ≡ Err given → given ≡ refusal
-    → Passes {X = Unit {0}} (piece_refusals words now id path (control_and_root words id) pages (linking_of link guard)) (Err refusal)
+    → TellsFirstDue {X = Unit {0}} (piece_refusals words now id path (control_and_root words id) pages (linking_of link guard)) (Err refusal)
     → Plans (split_row callers words holders thread now id path pages mode link guard) result
 split_refused_later callers words holders thread now id path pages mode link guard refusal given result passes other err same refused =
     plan_of_two (is_same_mode words id mode) (same_row callers words holders thread id) (other_row callers words holders thread now id path pages mode link guard) result
@@ -73,7 +75,7 @@ pub split_planned : (callers : Callers) (words : List Word) (holders : List Hold
     (perm : Perm) (result : Result Plan KernAnswer) → first_due (split_refused callers words holders thread id) ≡ None → ((named words id).perm.mode ≡ mode → ⊥)
     → first_due (piece_refusals words now id path (control_and_root words id) pages (linking_of link guard)) ≡ None
     → (let new : Perm = record { uid = (named words id).perm.uid; gid = (named words id).perm.gid; mode = mode } in perm ≡ new)
-    → Passes (entry_refusals words path ++ pages_short words 1 ∷ []) result → IfOk result (λ plan. plan ≡ piece_plan words path perm pages link)
+    → TellsFirstDue (entry_refusals words path ++ pages_short words 1 ∷ []) result → IfOk result (λ plan. plan ≡ piece_plan words path perm pages link)
     → Plans (split_row callers words holders thread now id path pages mode link guard) result
 split_planned callers words holders thread now id path pages mode link guard perm result passes other checked perm_is room plan_is =
     plan_of_two (is_same_mode words id mode) (same_row callers words holders thread id) (other_row callers words holders thread now id path pages mode link guard) result

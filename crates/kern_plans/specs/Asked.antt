@@ -1,8 +1,8 @@
 -- What the row of a call is made from.
 use Rattle.std.specs.Prelude.{◌≡◌, ℕ, List}
 use Rattle.pm_words.specs.Word.{Word}
-use Rattle.tr_types.specs.KernelRules.{IsSoundKernel}
-use Rattle.tr_types.specs.KernelCalls.{Callers, cred_of}
+use Rattle.kern_model.specs.KernelRules.{IsSoundKernel}
+use Rattle.kern_model.specs.KernelCalls.{Callers, cred_of}
 use Rattle.tr_types.specs.declared.kernel_call.Holder.{Holder}
 use Rattle.tr_types.specs.declared.permission.Cred.{Cred}
 use Rattle.kern_pages.specs.Owners.{owners_of}

@@ -2,5 +2,9 @@
 pub mod Plans
 -- what a row is made from
 pub mod Asked
--- parts of a row
-pub mod Parts
+-- links and guards
+pub mod Links
+-- what refuses a call
+pub mod Refusals
+-- what a call stores
+pub mod Stored

@@ -1,6 +1,6 @@
 -- What is planned for a call: the refusal that its row gives, or what the row does.
 use Rattle.std.specs.Prelude.{◌≡◌, ℕ, ◌≤◌, List, length, Some, None, Result, Ok, Err, ⊤}
-use Rattle.tr_types.specs.KernelCalls.{Row, first_due}
+use Rattle.kern_model.specs.KernelCalls.{Row, first_due}
 use Rattle.tr_types.specs.declared.kernel_call.KernAnswer.{KernAnswer}
 use Rattle.tr_types.specs.declared.kernel_call.KernAnswer.TheVariants.{NoMemory}
 

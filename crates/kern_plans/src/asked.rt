@@ -1,8 +1,8 @@
 // What a row is made from.
 ghost use Rattle.std.specs.Prelude.{◌≡◌, ◌≤◌, length, take, IfOk};
-ghost use Rattle.tr_types.specs.KernelRules.{IsSoundKernel};
-ghost use Rattle.tr_types.specs.Kernel as kernel;
-ghost use Rattle.tr_types.specs.KernelCalls as calls;
+ghost use Rattle.kern_model.specs.KernelRules.{IsSoundKernel};
+ghost use Rattle.kern_model.specs.Kernel as kernel;
+ghost use Rattle.kern_model.specs.KernelCalls as calls;
 ghost use Rattle.kern_plans.specs.Asked.{IsKnown};
 
 use crate::giving::NOBODY;

@@ -4,14 +4,15 @@ ghost use Rattle.std.specs.Prelude.{◌≡◌, ◌<◌, ◌/◌, ◌^◌, ℕ, l
 ghost use Rattle.std.specs.List.{list_any};
 ghost use Rattle.std.specs.HashMap.{get};
 ghost use Rattle.pm_words.specs.Memory.{IsAddress};
-ghost use Rattle.tr_types.specs.Kernel.{coffers};
-ghost use Rattle.tr_types.specs.PathMap.{coffer_above, coffer_with, is_coffer};
-ghost use Rattle.tr_types.specs.KernelCalls as calls;
-ghost use Rattle.tr_types.specs.KernelCalls.{Callers};
+ghost use Rattle.kern_model.specs.Kernel.{coffers};
+ghost use Rattle.kern_model.specs.PathMap.{coffer_above, coffer_with, is_coffer};
+ghost use Rattle.kern_model.specs.KernelCalls as calls;
+ghost use Rattle.kern_model.specs.KernelCalls.{Callers};
 ghost use Rattle.tr_types.specs.declared.kernel_call.KernAnswer.TheVariants as answer;
 ghost use Rattle.kern_roots.specs.Reading.{IsRefused};
 ghost use Rattle.kern_plans.specs.Asked.{HasCred};
-ghost use Rattle.kern_plans.specs.Parts.{Passes, refusal_of, link_of, guard_of, linking_refusals};
+ghost use Rattle.kern_plans.specs.Links.{link_of, guard_of};
+ghost use Rattle.kern_plans.specs.Refusals.{TellsFirstDue, refusal_of, linking_refusals};
 
 use crate::asked::Asked;
 use crate::linking::{Guard, Link, Linking};
@@ -27,7 +28,7 @@ const MOST_PATH_BYTES: usize = 440;
 
 /// Refuses where the test holds.
 pub(crate) fn refuse_where(refused: bool, refusal: KernAnswer) -> Result<(), KernAnswer>
-    ensures { Passes (calls.refused_where refused refusal ∷ []) result }
+    ensures { TellsFirstDue (calls.refused_where refused refusal ∷ []) result }
 {
     if refused { Err(refusal) } else { Ok(()) }
 }
@@ -132,7 +133,7 @@ pub(crate) fn check_pages(
     kept: &[u32],
     pages: &[u32],
 ) -> Result<(), KernAnswer>
-    ensures { Passes (calls.pages_refused asked.now.words parent addrs.now id kept.now pages.now ∷ []) result }
+    ensures { TellsFirstDue (calls.pages_refused asked.now.words parent addrs.now id kept.now pages.now ∷ []) result }
 {
     if let Some(page) = bad_address_page(asked, parent, addrs) {
         return Err(KernAnswer::NotYours(page));
@@ -154,7 +155,7 @@ fn is_expired(tick: u32, lease: u64) -> bool
 /// The guard's word is the one that is given, and no lease that has expired.
 pub(crate) fn check_guard(asked: &Asked, guard: Guard) -> Result<(), KernAnswer>
     requires { IsAddress (length asked.now.words) guard.addr }
-    ensures { Passes (calls.guard_refused asked.now.words asked.now.tick (guard_of guard) ∷ []) result }
+    ensures { TellsFirstDue (calls.guard_refused asked.now.words asked.now.tick (guard_of guard) ∷ []) result }
 {
     let addr = guard.addr;
     let word = asked.words().load(addr);
@@ -165,7 +166,7 @@ pub(crate) fn check_guard(asked: &Asked, guard: Guard) -> Result<(), KernAnswer>
 /// The link's word is the one that is given.
 pub(crate) fn check_link(asked: &Asked, link: Link) -> Result<(), KernAnswer>
     requires { IsAddress (length asked.now.words) link.addr }
-    ensures { Passes (calls.link_refused asked.now.words (link_of link) ∷ []) result }
+    ensures { TellsFirstDue (calls.link_refused asked.now.words (link_of link) ∷ []) result }
 {
     let addr = link.addr;
     let word = asked.words().load(addr);
@@ -183,7 +184,7 @@ pub(crate) fn check_linking(
     kept: &[u32],
     pages: &[u32],
 ) -> Result<(), KernAnswer>
-    ensures { Passes (linking_refusals asked.now.words asked.now.tick parent linking id kept.now pages.now) result }
+    ensures { TellsFirstDue (linking_refusals asked.now.words asked.now.tick parent linking id kept.now pages.now) result }
 {
     let addrs = [linking.link.addr, linking.guard.addr];
     check_pages(alloc, asked, parent, &addrs, id, kept, pages)?;
@@ -243,7 +244,7 @@ pub(crate) fn check_leaving(
     id: u16,
     parent: u16,
 ) -> Result<(), KernAnswer>
-    ensures { (callers : Callers) → HasCred callers asked.now → Passes (calls.owner_refused callers asked.now.words asked.now.thread id
+    ensures { (callers : Callers) → HasCred callers asked.now → TellsFirstDue (calls.owner_refused callers asked.now.words asked.now.thread id
         ++ (calls.refused_where (not (calls.holds_both asked.now.words asked.now.holders asked.now.thread id parent)) answer.NotHeld
         ∷ calls.refused_where (calls.has_children asked.now.words id) answer.NotEmptyList ∷ [])) result }
 {

@@ -1,7 +1,7 @@
 // Pages that come to an owner.
 ghost use Rattle.std.specs.Prelude.{◌≡◌, ◌<◌, ◌++◌, slice_index_or, All, OnOk};
-ghost use Rattle.tr_types.specs.KernelView.{pages_of};
-ghost use Rattle.tr_types.specs.KernelCalls as calls;
+ghost use Rattle.kern_model.specs.KernelView.{pages_of};
+ghost use Rattle.kern_model.specs.KernelCalls as calls;
 
 use pm_words::Words;
 use std::alloc::AllocError;

@@ -3,23 +3,22 @@
 #![tactic(auto)]
 
 mod asked;
-mod changing;
+mod calls;
 mod checks;
-mod coming;
 mod giving;
-mod going;
 mod linking;
-mod looking;
-mod merging;
-mod moving;
 mod naming;
 mod owning;
 mod planned;
-mod shrinking;
-mod splitting;
 
 pub use asked::Asked;
-pub use changing::{enlarge, mode, recover, shrink};
-pub use looking::find;
-pub use moving::{delete, merge, new, split};
+pub use calls::delete::delete;
+pub use calls::enlarge::enlarge;
+pub use calls::find::find;
+pub use calls::merge::merge;
+pub use calls::mode::mode;
+pub use calls::new::new;
+pub use calls::recover::recover;
+pub use calls::shrink::shrink;
+pub use calls::split::split;
 pub use planned::Planned;

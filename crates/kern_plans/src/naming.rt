@@ -1,12 +1,12 @@
 // The entry of a new coffer.
 ghost use Rattle.std.specs.Prelude.{◌≡◌, IfOk};
-ghost use Rattle.tr_types.specs.KernelView.{pages_of};
-ghost use Rattle.tr_types.specs.Journal.{kernel_word};
-ghost use Rattle.tr_types.specs.PathMap.{added_pairs};
-ghost use Rattle.tr_types.specs.KernelRules.{IsSoundKernel};
-ghost use Rattle.tr_types.specs.KernelCalls as calls;
+ghost use Rattle.kern_model.specs.KernelView.{pages_of};
+ghost use Rattle.kern_model.specs.Journal.{kernel_word};
+ghost use Rattle.kern_model.specs.PathMap.{added_pairs};
+ghost use Rattle.kern_model.specs.KernelRules.{IsSoundKernel};
+ghost use Rattle.kern_model.specs.KernelCalls as calls;
 ghost use Rattle.kern_roots.specs.Changes.{new_coffer};
-ghost use Rattle.kern_plans.specs.Parts.{Passes, entry_refusals};
+ghost use Rattle.kern_plans.specs.Refusals.{TellsFirstDue, entry_refusals};
 
 use kern_roots::{Pairs, Root, RootsFault, add};
 use pm_words::Words;
@@ -22,7 +22,7 @@ pub fn new_entry(
     root: &Root,
 ) -> Result<(u16, Pairs), KernAnswer>
     requires { IsSoundKernel words.now }
-    ensures refused { Passes (entry_refusals words.now path.now) result }
+    ensures refused { TellsFirstDue (entry_refusals words.now path.now) result }
     ensures id { IfOk result (λ made. made.0 ≡ calls.next_id words.now) }
     ensures pairs { IfOk result (λ made. made.1 ≡ added_pairs (pages_of words.now) (kernel_word words.now) (new_coffer (calls.next_id words.now) path.now root.now)) }
 {

@@ -1,10 +1,10 @@
 // The entry of a coffer, and whether the caller may act as its owner.
 ghost use Rattle.std.specs.Prelude.{◌≡◌, [], ◌∷◌, IfOk};
-ghost use Rattle.tr_types.specs.KernelCalls.{Callers};
-ghost use Rattle.tr_types.specs.KernelCalls as calls;
+ghost use Rattle.kern_model.specs.KernelCalls.{Callers};
+ghost use Rattle.kern_model.specs.KernelCalls as calls;
 ghost use Rattle.kern_roots.specs.Reading.{root_of};
 ghost use Rattle.kern_plans.specs.Asked.{HasCred};
-ghost use Rattle.kern_plans.specs.Parts.{Passes, own_refused};
+ghost use Rattle.kern_plans.specs.Refusals.{TellsFirstDue, own_refused};
 
 use crate::asked::Asked;
 use kern_roots::{Root, RootState, entry_of};
@@ -26,7 +26,7 @@ const NO_ROOT: Root = Root {
 /// The entry of a coffer of which the caller has the right Own. `NoCoffer` where there is no such coffer,
 /// `Denied` to all but its owner and uid 0.
 pub fn owned(asked: &Asked, id: u16) -> Result<Root, KernAnswer>
-    ensures refused { (callers : Callers) → HasCred callers asked.now → Passes (calls.owner_refused callers asked.now.words asked.now.thread id) result }
+    ensures refused { (callers : Callers) → HasCred callers asked.now → TellsFirstDue (calls.owner_refused callers asked.now.words asked.now.thread id) result }
     ensures root { IfOk result (λ root. root ≡ root_of (calls.named asked.now.words id)) }
 {
     let Some(root) = entry_of(asked.words(), id) else {
@@ -39,7 +39,7 @@ pub fn owned(asked: &Asked, id: u16) -> Result<Root, KernAnswer>
 /// The entry of a coffer that the caller holds for writing, and of which it has the right Own. `NotHeld`
 /// and `Denied` where it isn't so.
 pub fn held_and_owned(asked: &Asked, id: u16) -> Result<Root, KernAnswer>
-    ensures refused { (callers : Callers) → HasCred callers asked.now → Passes (calls.split_refused callers asked.now.words asked.now.holders asked.now.thread id) result }
+    ensures refused { (callers : Callers) → HasCred callers asked.now → TellsFirstDue (calls.split_refused callers asked.now.words asked.now.holders asked.now.thread id) result }
     ensures root { IfOk result (λ root. root ≡ root_of (calls.named asked.now.words id)) }
 {
     if !asked.holds_for_writing(id) {
@@ -52,7 +52,7 @@ pub fn held_and_owned(asked: &Asked, id: u16) -> Result<Root, KernAnswer>
 
 // The caller has the right Own on a coffer, which its owner and uid 0 have. Else `Denied`.
 fn check_own(asked: &Asked, root: &Root) -> Result<(), KernAnswer>
-    ensures { (callers : Callers) → HasCred callers asked.now → Passes (own_refused callers asked.now.thread root.now.perm ∷ []) result }
+    ensures { (callers : Callers) → HasCred callers asked.now → TellsFirstDue (own_refused callers asked.now.thread root.now.perm ∷ []) result }
 {
     if refuses(&root.perm, &asked.cred(), Right::OWN) {
         return Err(KernAnswer::Denied {

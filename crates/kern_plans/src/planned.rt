@@ -1,7 +1,7 @@
 // A call's plan.
-ghost use Rattle.tr_types.specs.KernelCalls.{Row};
+ghost use Rattle.kern_model.specs.KernelCalls.{Row};
 ghost use Rattle.kern_plans.specs.Plans.{Plans};
-ghost use Rattle.kern_plans.specs.Parts.{OnlyStores};
+ghost use Rattle.kern_plans.specs.Stored.{OnlyStores};
 
 use std::alloc::Global;
 use std::marker::Model;

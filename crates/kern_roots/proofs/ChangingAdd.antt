@@ -2,7 +2,7 @@
 use Rattle.std.proofs.Common.{◌≡◌, ℕ, ◌<◌, ◌≤◌, ◌⊎◌, List, ◌∷◌, true, false, not, refl, ap, sym, subst, ◌∙◌, inl, inr, arith}
 use Rattle.std.proofs.lemmas.Bool.{cases_eq, true≢false, and_from, not_from_false, false_from_ne_true}
 use Rattle.zo_layout.specs.Layout.{path_bucket, bucket_of}
-use Rattle.tr_types.specs.KernelTables.{is_there, stands_in, path_in, chain_in, is_in_chain, none_twice, belongs, bucket_fails}
+use Rattle.kern_model.specs.KernelTables.{is_there, stands_in, path_in, chain_in, is_in_chain, none_twice, belongs, bucket_fails}
 use Rattle.kern_roots.proofs.ChangingChain.{next_in}
 use Rattle.kern_roots.proofs.ChangingLists.{in_first, in_rest, in_cases}
 use Rattle.kern_roots.proofs.ChangingEntries.{same_state, same_path_in}

@@ -9,12 +9,12 @@ use Rattle.std.proofs.lemmas.List.{get_or-append-add}
 use Rattle.std.proofs.lemmas.List.FromFn.{length-map-range_with_len, get_or-map-range_with_len}
 use Rattle.zo_layout.specs.Layout.{word_of, coffer_entry, coffer_state, coffer_path_word, path_bucket, bucket_of}
 use Rattle.tr_types.specs.Paths.{same_text, is_path_text}
-use Rattle.tr_types.specs.Journal.{laid_over}
-use Rattle.tr_types.specs.Kernel.{read_after}
-use Rattle.tr_types.specs.KernelTables.{Coffer, all_ids, is_there, is_in_chain, stands_in, path_in, path_bytes, coffer_in, path_fails, entry_fails}
-use Rattle.tr_types.specs.PathMap.{free_id, entry_words, text_words, from_address, added_pairs}
+use Rattle.kern_model.specs.Journal.{laid_over}
+use Rattle.kern_model.specs.Kernel.{read_after}
+use Rattle.kern_model.specs.KernelTables.{Coffer, all_ids, is_there, is_in_chain, stands_in, path_in, path_bytes, coffer_in, path_fails, entry_fails}
+use Rattle.kern_model.specs.PathMap.{free_id, entry_words, text_words, from_address, added_pairs}
 use Rattle.kern_roots.specs.Changes.{is_taken}
-use Rattle.kern_roots.specs.Laws.{AddLaw}
+use Rattle.kern_roots.specs.Laws.{AddLaw, SameRoots, BucketsPass, IsComing}
 use Rattle.kern_roots.proofs.ChangingPairs.{text_word}
 use Rattle.kern_roots.proofs.ChangingSearch.{has_path_at, taken_by_ids}
 use Rattle.kern_roots.proofs.ChangingLayout.{first_word, same_entry_word, entry_not_bucket, same_bucket}
@@ -22,9 +22,9 @@ use Rattle.kern_roots.proofs.ChangingReads.{laid_append, laid_past, laid_one, la
 use Rattle.kern_roots.proofs.ChangingLists.{id_in_all, all_are_ids, in_first, in_rest, not_passed}
 use Rattle.kern_roots.proofs.ChangingChain.{bucket_below}
 use Rattle.kern_roots.proofs.ChangingEntries.{same_coffer, flat_same, right_passes, twice_from, free_rule, same_path_in, same_state}
-use Rattle.kern_roots.proofs.ChangingText.{chunk, word_bytes, chunks_are}
+use Rattle.kern_roots.proofs.ChangingText.{Small, small_path, small_all, chunk, word_bytes, chunks_are}
 use Rattle.kern_roots.proofs.ChangingSets.{OthersStay, others_pass}
-use Rattle.kern_roots.proofs.ChangingAdd.{arrived}
+use Rattle.kern_roots.proofs.ChangingAdd.{Arrives, arrived}
 
 -- the first that passes passes, and is in the list
 found_passes : (p : ℕ → Bool) (xs : List ℕ) (x : ℕ) → find p xs ≡ Some x → (is_in_chain x xs ≡ true) × (p x ≡ true)
@@ -105,7 +105,7 @@ path_word c next i h =
     get_or-append-add front (text_words 55 c.path) i 0 ∙ get_or-map-range_with_len (text_word c.path) 0 55 i i 0 h none
 
 -- what is read of the new coffer
-new_path : (pages : ℕ) (after : ℕ → ℕ) (c : Coffer) (next : ℕ) → is_path_text c.path ≡ true → length c.path ≤ 440
+new_path : (pages : ℕ) (after : ℕ → ℕ) (c : Coffer) (next : ℕ) → Small c.path → length c.path ≤ 440
     → ((i : ℕ) → i < 64 → after (word_of (coffer_entry pages c.id) i) ≡ get_or (entry_words c next) i 0) → path_in pages after c.id ≡ c.path
 new_path pages after c next text short own =
     let bytes : path_bytes pages after c.id ≡ flat_map (chunk c.path) (range_with_len 0 55) =
@@ -116,7 +116,7 @@ new_path pages after c next text short own =
     ∙ ap (take (length c.path)) bytes
     ∙ chunks_are c.path 55 0 short
 
-new_coffer : (pages : ℕ) (after : ℕ → ℕ) (c : Coffer) (next : ℕ) → is_path_text c.path ≡ true → length c.path ≤ 440
+new_coffer : (pages : ℕ) (after : ℕ → ℕ) (c : Coffer) (next : ℕ) → Small c.path → length c.path ≤ 440
     → ((i : ℕ) → i < 64 → after (word_of (coffer_entry pages c.id) i) ≡ get_or (entry_words c next) i 0) → coffer_in pages after c.id ≡ c
 new_coffer pages after c next text short own =
     let path = new_path pages after c next text short own in
@@ -145,60 +145,84 @@ not_first : (pages : ℕ) (at : ℕ → ℕ) (id : ℕ) → entry_fails pages at
 not_first pages at id passes free e =
     true≢false (sym (free_rule pages at 1 (sym (ap (stands_in pages at) e) ∙ free) ∙ or_right (not (at (coffer_state (coffer_entry pages 1)) == 0)) true refl) ∙ passes)
 
+-- what is read of a coffer that has come, whatever text its path is
+module _ (pages : ℕ) (at after : ℕ → ℕ) (c : Coffer) (free_is : free_id pages at ≡ Some c.id) (small : Small c.path) (short : length c.path ≤ 440) (is_state : is_there c.state ≡ true) (same : SameRoots pages (read_after (added_pairs pages at c) at) after) where
+  pub f : IsFree pages at c.id
+  f = is_free pages at c.id free_is
+
+  pub own : (i : ℕ) → i < 64 → after (word_of (coffer_entry pages c.id) i) ≡ get_or (entry_words c (at (path_bucket pages (bucket_of c.path)))) i 0
+  own i h = same.entries c.id i f.least f.most h ∙ own_word pages at c f.least f.most i h
+
+  pub path : path_in pages after c.id ≡ c.path
+  path = new_path pages after c (at (path_bucket pages (bucket_of c.path))) small short own
+
+  pub others : OthersStay pages c.id at after
+  others other lo mo ne i h nx = same.entries other i lo mo h ∙ other_word pages at c f.least other i lo mo ne h
+
+  pub there : stands_in pages after c.id ≡ true
+  there = ap is_there (ap after (sym (first_word (coffer_entry pages c.id))) ∙ own 0 (omega arith)) ∙ is_state
+
+  pub arrives : Arrives pages c.id (bucket_of c.path) at after
+  arrives = record {
+    least = f.least;
+    most = f.most;
+    free = f.free;
+    there = there;
+    hashed = ap bucket_of path;
+    others = others;
+    nexts = λ other lo mo ne. same.entries other 6 lo mo (omega arith) ∙ other_word pages at c f.least other 6 lo mo ne (omega arith);
+    head = same.buckets (bucket_of c.path) (bucket_below c.path) ∙ own_bucket pages at c;
+    next = own 6 (omega arith);
+    buckets = λ d g ne. same.buckets d g ∙ other_bucket pages at c f.least f.most d ne;
+  }
+
+pub added_buckets : (pages : ℕ) (at after : ℕ → ℕ) (c : Coffer) → BucketsPass pages at → IsComing pages at c → SameRoots pages (read_after (added_pairs pages at c) at) after → BucketsPass pages after
+added_buckets pages at after c passes new same b h =
+    arrived pages c.id (bucket_of c.path) at after (arrives pages at after c new.free (small_all c.path new.bytes) new.short new.there same) b h (passes b h)
+
 pub add_is : AddLaw
 add_is pages at after c passes new same keeps = (
-  new_coffer pages after c next new.path new.short own,
+  new_coffer pages after c next_id small new.short own_words,
   record {
-    own = λ right. right_passes pages after c.id there right ruled
-        (twice_from pages after c.id (λ x lx mx s ne. ap (same_text (path_in pages after x)) path ∙ once x lx mx s ne))
-        (ap (λ (b : Bool). b && not (same_text (path_in pages after c.id) (codes "/"))) (ne_eqb c.id 1 (not_first pages at c.id (passes.entries 1 (omega arith) (omega arith)) f.free)));
-    others = λ other lo mo ne. same_coffer pages at after other (others other lo mo ne);
-    entries = others_pass pages at after c.id passes keeps others
-        (λ other lo mo ne s there. ap (λ (path : List ℕ). same_text path (path_in pages at other)) path ∙ not_same pages at c.path other new.fresh lo mo s);
-    buckets = λ b h. arrived pages c.id bucket at after (record {
-      least = f.least;
-      most = f.most;
-      free = f.free;
-      there = there;
-      hashed = ap bucket_of path;
-      others = others;
-      nexts = λ other lo mo ne. same.entries other 6 lo mo (omega arith) ∙ other_word pages at c f.least other 6 lo mo ne (omega arith);
-      head = same.buckets bucket (bucket_below c.path) ∙ own_bucket pages at c;
-      next = own 6 (omega arith);
-      buckets = λ d g ne. same.buckets d g ∙ other_bucket pages at c f.least f.most d ne;
-    }) b h (passes.buckets b h);
+    own = λ right. right_passes pages after c.id stands right ruled
+        (twice_from pages after c.id (λ x lx mx s ne. ap (same_text (path_in pages after x)) is_path ∙ once x lx mx s ne))
+        (ap (λ (b : Bool). b && not (same_text (path_in pages after c.id) (codes "/"))) (ne_eqb c.id 1 (not_first pages at c.id (passes.entries 1 (omega arith) (omega arith)) frees.free)));
+    others = λ other lo mo ne. same_coffer pages at after other (stay other lo mo ne);
+    entries = others_pass pages at after c.id passes keeps stay
+        (λ other lo mo ne s there. ap (λ (path : List ℕ). same_text path (path_in pages at other)) is_path ∙ not_same pages at c.path other new.fresh lo mo s);
+    buckets = λ b h. arrived pages c.id (bucket_of c.path) at after (arrives pages at after c new.free small new.short new.there same) b h (passes.buckets b h);
   },
 )
   where
-    f : IsFree pages at c.id
-    f = is_free pages at c.id new.free
+    small : Small c.path
+    small = small_path c.path new.path
 
-    bucket : ℕ
-    bucket = bucket_of c.path
+    next_id : ℕ
+    next_id = at (path_bucket pages (bucket_of c.path))
 
-    next : ℕ
-    next = at (path_bucket pages (bucket_of c.path))
+    frees : IsFree pages at c.id
+    frees = f pages at after c new.free small new.short new.there same
 
-    own : (i : ℕ) → i < 64 → after (word_of (coffer_entry pages c.id) i) ≡ get_or (entry_words c (at (path_bucket pages (bucket_of c.path)))) i 0
-    own i h = same.entries c.id i f.least f.most h ∙ own_word pages at c f.least f.most i h
+    own_words : (i : ℕ) → i < 64 → after (word_of (coffer_entry pages c.id) i) ≡ get_or (entry_words c (at (path_bucket pages (bucket_of c.path)))) i 0
+    own_words = own pages at after c new.free small new.short new.there same
 
-    path : path_in pages after c.id ≡ c.path
-    path = new_path pages after c (at (path_bucket pages (bucket_of c.path))) new.path new.short own
+    is_path : path_in pages after c.id ≡ c.path
+    is_path = path pages at after c new.free small new.short new.there same
 
-    others : OthersStay pages c.id at after
-    others other lo mo ne i h next = same.entries other i lo mo h ∙ other_word pages at c f.least other i lo mo ne h
+    stay : OthersStay pages c.id at after
+    stay = others pages at after c new.free small new.short new.there same
 
-    there : stands_in pages after c.id ≡ true
-    there = ap is_there (ap after (sym (first_word (coffer_entry pages c.id))) ∙ own 0 (omega arith)) ∙ new.there
+    stands : stands_in pages after c.id ≡ true
+    stands = there pages at after c new.free small new.short new.there same
 
     ruled : path_fails pages after c.id ≡ false
     ruled =
-        ap (λ (n : ℕ). not (nat_le n 440 && is_path_text (path_in pages after c.id))) (own 7 (omega arith))
+        ap (λ (n : ℕ). not (nat_le n 440 && is_path_text (path_in pages after c.id))) (own_words 7 (omega arith))
         ∙ ap (λ (b : Bool). not (b && is_path_text (path_in pages after c.id))) (le-leb (length c.path) 440 new.short)
-        ∙ ap (λ (text : List ℕ). not (is_path_text text)) path
+        ∙ ap (λ (text : List ℕ). not (is_path_text text)) is_path
         ∙ ap not new.path
 
     once : (x : ℕ) → 1 ≤ x → x ≤ 256 → stands_in pages after x ≡ true → (x ≡ c.id → ⊥) → same_text (path_in pages after x) c.path ≡ false
     once x lx mx s ne =
-        ap (λ (text : List ℕ). same_text text c.path) (same_path_in pages at after x (λ i g h. others x lx mx ne i h (omega arith)))
-        ∙ not_taken pages at c.path x new.fresh lx mx (sym (ap is_there (same_state pages at after x (others x lx mx ne))) ∙ s)
+        ap (λ (text : List ℕ). same_text text c.path) (same_path_in pages at after x (λ i g h. stay x lx mx ne i h (omega arith)))
+        ∙ not_taken pages at c.path x new.fresh lx mx (sym (ap is_there (same_state pages at after x (stay x lx mx ne))) ∙ s)

@@ -3,7 +3,7 @@ use Rattle.std.proofs.Common.{◌≡◌, ℕ, zero, suc, ◌<◌, ◌≤◌, ◌
 use Rattle.std.specs.List.{list_all}
 use Rattle.std.proofs.lemmas.Bool.{cases_Bool, cases_eq, and_parts, and_from, not-true, not-false, not_from_false, eqb-false, false_from_ne_true, true≢false, le-leb}
 use Rattle.zo_layout.specs.Layout.{bucket_of}
-use Rattle.tr_types.specs.KernelTables.{chain_from, chain_in, all_ids, is_id, is_in_chain, none_twice, stands_in, path_in, belongs, bucket_fails}
+use Rattle.kern_model.specs.KernelTables.{chain_from, chain_in, all_ids, is_id, is_in_chain, none_twice, stands_in, path_in, belongs, bucket_fails}
 use Rattle.kern_roots.proofs.ChangingChain.{is_id_most}
 use Rattle.kern_roots.proofs.ChangingLists.{all_at, all_from, in_first, in_rest, in_filter, from_filter, id_in_all}
 

@@ -4,8 +4,8 @@ use Rattle.std.specs.List.{list_all}
 use Rattle.std.proofs.lemmas.Bool.{not-false, and_parts, and_from, leb-true}
 use Rattle.std.proofs.lemmas.Nat.{mod_below}
 use Rattle.zo_layout.specs.Layout.{coffer_entry, coffer_next, path_bucket, bucket_of, name_hash}
-use Rattle.tr_types.specs.KernelTables.{chain_from, chain_in, longest_chain, is_id, belongs, bucket_fails}
-use Rattle.tr_types.specs.PathMap.{leads_to}
+use Rattle.kern_model.specs.KernelTables.{chain_from, chain_in, longest_chain, is_id, belongs, bucket_fails}
+use Rattle.kern_model.specs.PathMap.{leads_to}
 
 -- the word behind a coffer in its chain
 abbrev pub next_in : ℕ → (ℕ → ℕ) → ℕ → ℕ

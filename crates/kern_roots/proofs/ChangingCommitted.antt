@@ -9,13 +9,13 @@ use Rattle.pm_words.specs.Word.{Word}
 use Rattle.pm_words.specs.Memory.{word_at, store_at, all_durable}
 use Rattle.pm_words.proofs.WordLemmas.{length_store_at, word_at_stored, word_at_other}
 use Rattle.zo_layout.specs.Layout.{signature_word, version_word, count_word, owner_word, word_of, page_at, coffer_table, path_bucket, pair_capacity}
-use Rattle.tr_types.specs.NewImage.{new_image}
-use Rattle.tr_types.specs.KernelView.{pages_of}
-use Rattle.tr_types.specs.Journal.{IsHome, committed, committed_count, pair_at, laid_over, kernel_word}
-use Rattle.tr_types.specs.KernelTables.{owner_fails, entry_fails, bucket_fails}
-use Rattle.tr_types.specs.KernelRules.{IsSoundKernel}
-use Rattle.tr_types.proofs.FreePages.{pages_are, size_opened}
-use Rattle.tr_types.proofs.NewKernel.{IsNewTables, new_is_sound, new_committed, new_tables, new_owners, new_entries, new_buckets}
+use Rattle.kern_model.specs.NewImage.{new_image}
+use Rattle.kern_model.specs.KernelView.{pages_of}
+use Rattle.kern_model.specs.Journal.{IsHome, committed, committed_count, pair_at, laid_over, kernel_word}
+use Rattle.kern_model.specs.KernelTables.{owner_fails, entry_fails, bucket_fails}
+use Rattle.kern_model.specs.KernelRules.{IsSoundKernel}
+use Rattle.kern_model.proofs.FreePages.{pages_are, size_opened}
+use Rattle.kern_model.proofs.NewKernel.{IsNewTables, new_is_sound, new_committed, new_tables, new_owners, new_entries, new_buckets}
 use Rattle.kern_roots.proofs.ChangingReads.{laid_past, laid_one}
 
 abbrev fresh : List Word

@@ -3,11 +3,12 @@ use Rattle.std.proofs.Common.{◌≡◌, ℕ, ◌+◌, ◌<◌, ◌≤◌, ◌�
 use Rattle.std.proofs.lemmas.Bool.{cases_eq, cases_Bool, true≢false, not_from_false, not-true, eqb-false}
 use Rattle.std.proofs.lemmas.List.{get_or-replicate, length-replicate}
 use Rattle.zo_layout.specs.Layout.{word_of, coffer_entry, coffer_state, coffer_next, path_bucket, bucket_of}
-use Rattle.tr_types.specs.Journal.{laid_over}
-use Rattle.tr_types.specs.Kernel.{read_after}
-use Rattle.tr_types.specs.KernelTables.{is_there, stands_in, path_in, chain_in, longest_chain, is_in_chain, none_twice, belongs, bucket_fails, entry_fails}
-use Rattle.tr_types.specs.PathMap.{leading_word, no_words, from_address, with_pair, dropped_pairs}
-use Rattle.kern_roots.specs.Laws.{PassesRoots, DropLaw}
+use Rattle.kern_model.specs.Journal.{laid_over}
+use Rattle.kern_model.specs.Kernel.{read_after}
+use Rattle.kern_model.specs.KernelTables.{is_there, stands_in, path_in, chain_in, longest_chain, is_in_chain, none_twice, belongs, bucket_fails, entry_fails}
+use Rattle.kern_model.specs.PathMap.{leading_word, no_words, from_address, with_pair, dropped_pairs}
+use Rattle.kern_roots.specs.Changes.{is_used}
+use Rattle.kern_roots.specs.Laws.{SameRoots, BucketsPass, DropLaw}
 use Rattle.kern_roots.proofs.ChangingPairs.{placed}
 use Rattle.kern_roots.proofs.ChangingLayout.{first_word, same_entry_word, entry_not_bucket, same_bucket}
 use Rattle.kern_roots.proofs.ChangingReads.{laid_past, laid_one, laid_miss, laid_hit, laid_first, miss_from}
@@ -144,12 +145,12 @@ other_bucket pages id at after g lead b small ne passes =
         let same = (same_entry_word pages x y 6 6 r.least s.least (omega arith) (omega arith) (q ∙ e)).0 in
         ne (sym r.hashed ∙ ap (λ (k : ℕ). bucket_of (path_in pages at k)) same ∙ s.hashed)
 
-went : (pages id : ℕ) (at after : ℕ → ℕ) → Goes pages id at after → Leads pages at id → PassesRoots pages at → (b : ℕ) → b < 256 → bucket_fails pages after b ≡ false
+went : (pages id : ℕ) (at after : ℕ → ℕ) → Goes pages id at after → Leads pages at id → BucketsPass pages at → (b : ℕ) → b < 256 → bucket_fails pages after b ≡ false
 went pages id at after g lead passes b small = by (cases_eq b (own_of pages at id))
   where
     by : (b ≡ own_of pages at id) ⊎ (b ≡ own_of pages at id → ⊥) → bucket_fails pages after b ≡ false
-    by (inl e) = subst (λ (k : ℕ). bucket_fails pages after k ≡ false) (sym e) (own_bucket pages id at after g (passes.buckets (own_of pages at id) (bucket_below (path_in pages at id))))
-    by (inr ne) = other_bucket pages id at after g lead b small ne (passes.buckets b small)
+    by (inl e) = subst (λ (k : ℕ). bucket_fails pages after k ≡ false) (sym e) (own_bucket pages id at after g (passes (own_of pages at id) (bucket_below (path_in pages at id))))
+    by (inr ne) = other_bucket pages id at after g lead b small ne (passes b small)
 
 -- A pair in its place among others is read as itself where the others don't name its address, and changes nothing elsewhere.
 
@@ -218,66 +219,76 @@ leading_read pages at id l m lead =
     let long = length_no_words in
     with_hit (coffer_entry pages id) 0 no_words (addr, next_in pages at id) addr (at addr) refl (λ k g h e. leading_apart pages at id l m lead k (omega arith) e)
 
+module _ (pages : ℕ) (at after : ℕ → ℕ) (id : ℕ) (passes : BucketsPass pages at) (has : is_used pages at id ≡ true) (same : SameRoots pages (read_after (dropped_pairs pages at id) at) after) where
+  r : (1 ≤ id) × (id ≤ 256) × (stands_in pages at id ≡ true)
+  r = coffer_is_there pages at id has
+
+  pub lead : Leads pages at id
+  lead = leads pages at id (holds_at pages at (own_of pages at id) (passes (own_of pages at id) (bucket_below (path_in pages at id))))
+
+  pub cleared : after (coffer_state (coffer_entry pages id)) ≡ 0
+  cleared = ap after (sym (first_word (coffer_entry pages id))) ∙ same.entries id 0 r.0 r.1 (omega arith) ∙ dropped_word pages at id r.0 r.1 lead 0 (omega arith)
+
+  pub gone : stands_in pages after id ≡ false
+  gone = ap is_there cleared
+
+  apart : (other i : ℕ) → 1 ≤ other → (other ≡ id → ⊥) → i < 64 → (k : ℕ) → k < 64 → word_of (coffer_entry pages id) k ≡ word_of (coffer_entry pages other) i → ⊥
+  apart other i lo other_id h k g e = other_id (sym (same_entry_word pages id other k i r.0 lo g h e).0)
+
+  unled : Leads pages at id → (other i : ℕ) → 1 ≤ other → other ≤ 256 → i < 64 → (i ≡ 6 → ⊥) → leading_word pages at id ≡ word_of (coffer_entry pages other) i → ⊥
+  unled (ByBucket e) other i lo mo h nx q = entry_not_bucket pages other i (own_of pages at id) lo mo h (sym q ∙ e)
+  unled (ByCoffer x nid b e) other i lo mo h nx q =
+      let s = belongs_parts pages at (own_of pages at id) x b in
+      nx (same_entry_word pages other x i 6 lo s.least h (omega arith) (sym q ∙ e)).1
+
+  pub others : OthersStay pages id at after
+  others other lo mo other_id i h nx =
+      same.entries other i lo mo h
+      ∙ other_read pages at id (word_of (coffer_entry pages other) i) (apart other i lo other_id h) (unled lead other i lo mo h nx)
+
+  led : Leads pages at id → after (leading_word pages at id) ≡ read_after (dropped_pairs pages at id) at (leading_word pages at id)
+  led (ByBucket e) =
+      ap after e ∙ same.buckets (own_of pages at id) (bucket_below (path_in pages at id)) ∙ ap (read_after (dropped_pairs pages at id) at) (sym e)
+  led (ByCoffer x nid b e) =
+      let s = belongs_parts pages at (own_of pages at id) x b in
+      ap after e ∙ same.entries x 6 s.least s.most (omega arith) ∙ ap (read_after (dropped_pairs pages at id) at) (sym e)
+
+  pub goes : Goes pages id at after
+  goes = record {
+    least = r.0;
+    most = r.1;
+    was = r.2;
+    gone = gone;
+    others = others;
+    past = led lead ∙ leading_read pages at id r.0 r.1 lead;
+    nexts = λ other lo mo other_id elsewhere.
+        same.entries other 6 lo mo (omega arith)
+        ∙ other_read pages at id (word_of (coffer_entry pages other) 6) (apart other 6 lo other_id (omega arith)) (λ e. elsewhere (sym e));
+    buckets = λ b h elsewhere.
+        same.buckets b h
+        ∙ other_read pages at id (path_bucket pages b) (λ i g e. entry_not_bucket pages id i b r.0 r.1 g e) (λ e. elsewhere (sym e));
+  }
+
+pub dropped_buckets : (pages : ℕ) (at after : ℕ → ℕ) (id : ℕ) → BucketsPass pages at → is_used pages at id ≡ true → SameRoots pages (read_after (dropped_pairs pages at id) at) after → BucketsPass pages after
+dropped_buckets pages at after id passes has same = went pages id at after (goes pages at after id passes has same) (lead pages at after id passes has same) passes
+
 pub drop_is : DropLaw
 drop_is pages at after id passes has ne same keeps = (
-  gone,
+  is_gone,
   own,
   record {
     own = λ right. own;
-    others = λ other lo mo other_id. same_coffer pages at after other (others other lo mo other_id);
-    entries = others_pass pages at after id passes keeps others (λ other lo mo other_id s there. absurd (true≢false (sym there ∙ gone)));
-    buckets = went pages id at after goes lead passes;
+    others = λ other lo mo other_id. same_coffer pages at after other (stay other lo mo other_id);
+    entries = others_pass pages at after id passes keeps stay (λ other lo mo other_id s there. absurd (true≢false (sym there ∙ is_gone)));
+    buckets = dropped_buckets pages at after id passes.buckets has same;
   },
 )
   where
-    r : (1 ≤ id) × (id ≤ 256) × (stands_in pages at id ≡ true)
-    r = coffer_is_there pages at id has
+    is_gone : stands_in pages after id ≡ false
+    is_gone = gone pages at after id passes.buckets has same
 
-    lead : Leads pages at id
-    lead = leads pages at id (holds_at pages at (own_of pages at id) (passes.buckets (own_of pages at id) (bucket_below (path_in pages at id))))
-
-    cleared : after (coffer_state (coffer_entry pages id)) ≡ 0
-    cleared = ap after (sym (first_word (coffer_entry pages id))) ∙ same.entries id 0 r.0 r.1 (omega arith) ∙ dropped_word pages at id r.0 r.1 lead 0 (omega arith)
-
-    gone : stands_in pages after id ≡ false
-    gone = ap is_there cleared
-
-    apart : (other i : ℕ) → 1 ≤ other → (other ≡ id → ⊥) → i < 64 → (k : ℕ) → k < 64 → word_of (coffer_entry pages id) k ≡ word_of (coffer_entry pages other) i → ⊥
-    apart other i lo other_id h k g e = other_id (sym (same_entry_word pages id other k i r.0 lo g h e).0)
-
-    unled : Leads pages at id → (other i : ℕ) → 1 ≤ other → other ≤ 256 → i < 64 → (i ≡ 6 → ⊥) → leading_word pages at id ≡ word_of (coffer_entry pages other) i → ⊥
-    unled (ByBucket e) other i lo mo h nx q = entry_not_bucket pages other i (own_of pages at id) lo mo h (sym q ∙ e)
-    unled (ByCoffer x nid b e) other i lo mo h nx q =
-        let s = belongs_parts pages at (own_of pages at id) x b in
-        nx (same_entry_word pages other x i 6 lo s.least h (omega arith) (sym q ∙ e)).1
-
-    others : OthersStay pages id at after
-    others other lo mo other_id i h nx =
-        same.entries other i lo mo h
-        ∙ other_read pages at id (word_of (coffer_entry pages other) i) (apart other i lo other_id h) (unled lead other i lo mo h nx)
-
-    led : Leads pages at id → after (leading_word pages at id) ≡ read_after (dropped_pairs pages at id) at (leading_word pages at id)
-    led (ByBucket e) =
-        ap after e ∙ same.buckets (own_of pages at id) (bucket_below (path_in pages at id)) ∙ ap (read_after (dropped_pairs pages at id) at) (sym e)
-    led (ByCoffer x nid b e) =
-        let s = belongs_parts pages at (own_of pages at id) x b in
-        ap after e ∙ same.entries x 6 s.least s.most (omega arith) ∙ ap (read_after (dropped_pairs pages at id) at) (sym e)
-
-    goes : Goes pages id at after
-    goes = record {
-      least = r.0;
-      most = r.1;
-      was = r.2;
-      gone = gone;
-      others = others;
-      past = led lead ∙ leading_read pages at id r.0 r.1 lead;
-      nexts = λ other lo mo other_id elsewhere.
-          same.entries other 6 lo mo (omega arith)
-          ∙ other_read pages at id (word_of (coffer_entry pages other) 6) (apart other 6 lo other_id (omega arith)) (λ e. elsewhere (sym e));
-      buckets = λ b h elsewhere.
-          same.buckets b h
-          ∙ other_read pages at id (path_bucket pages b) (λ i g e. entry_not_bucket pages id i b r.0 r.1 g e) (λ e. elsewhere (sym e));
-    }
+    stay : OthersStay pages id at after
+    stay = others pages at after id passes.buckets has same
 
     own : entry_fails pages after id ≡ false
-    own = free_rule pages after id gone ∙ ap (λ (n : ℕ). not (n == 0) || (id == 1)) cleared ∙ ne_eqb id 1 ne
+    own = free_rule pages after id is_gone ∙ ap (λ (n : ℕ). not (n == 0) || (id == 1)) (cleared pages at after id passes.buckets has same) ∙ ne_eqb id 1 ne

@@ -5,7 +5,7 @@ use Rattle.std.specs.Int.{w64, to_le_bytes}
 use Rattle.std.proofs.lemmas.Bool.{cases_Bool, or_parts, or_from, cases_eq, and_from}
 use Rattle.zo_layout.specs.Layout.{word_of, coffer_entry, coffer_state, coffer_path_word, coffer_path_length}
 use Rattle.tr_types.specs.Paths.{same_text, is_path_text}
-use Rattle.tr_types.specs.KernelTables.{Coffer, owner_in, is_there, stands_in, path_bytes, path_in, coffer_in, all_ids, ids_in, is_mode, path_fails, pages_fail, path_stands_twice, coffer_fails, entry_fails, owns}
+use Rattle.kern_model.specs.KernelTables.{Coffer, owner_in, is_there, stands_in, path_bytes, path_in, coffer_in, all_ids, ids_in, is_mode, path_fails, pages_fail, path_stands_twice, coffer_fails, entry_fails, owns}
 use Rattle.kern_roots.specs.Changes.{is_used}
 use Rattle.kern_roots.specs.Laws.{IsRight}
 use Rattle.kern_roots.proofs.ChangingSearch.{used_is, range_of}

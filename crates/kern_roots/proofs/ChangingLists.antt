@@ -2,7 +2,7 @@
 use Rattle.std.proofs.Common.{◌≡◌, ℕ, zero, suc, ◌+◌, ◌<◌, ◌≤◌, ◌⊎◌, List, [], ◌∷◌, filter, Bool, true, false, cond, nat_eq, refl, ap, sym, ◌∙◌, inl, inr, arith, eq-eqb, eqb-true}
 use Rattle.std.specs.List.{range_with_len, list_any, list_all}
 use Rattle.std.proofs.lemmas.Bool.{and_parts, and_from, or_parts, or_from, or_left, or_right, or_cases, cases_eq, cases_Bool, true≢false}
-use Rattle.tr_types.specs.KernelTables.{all_ids, is_in_chain}
+use Rattle.kern_model.specs.KernelTables.{all_ids, is_in_chain}
 
 -- What holds of all elements of a list, and of each that is in it.
 

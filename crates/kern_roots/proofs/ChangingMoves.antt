@@ -2,8 +2,8 @@
 use Rattle.std.proofs.Common.{◌≡◌, ℕ, zero, suc, ◌<◌, ◌≤◌, ◌⊎◌, List, [], ◌∷◌, length, Bool, true, false, not, cond, refl, ap, sym, subst, ◌∙◌, inl, inr, arith, eq-eqb, ne_eqb}
 use Rattle.std.proofs.lemmas.Bool.{cases_eq, true≢false}
 use Rattle.zo_layout.specs.Layout.{coffer_entry, coffer_next, path_bucket}
-use Rattle.tr_types.specs.KernelTables.{chain_from, chain_in, longest_chain, is_in_chain, none_twice, belongs, bucket_fails}
-use Rattle.tr_types.specs.PathMap.{leads_to}
+use Rattle.kern_model.specs.KernelTables.{chain_from, chain_in, longest_chain, is_in_chain, none_twice, belongs, bucket_fails}
+use Rattle.kern_model.specs.PathMap.{leads_to}
 use Rattle.kern_roots.proofs.ChangingChain.{next_in}
 use Rattle.kern_roots.proofs.ChangingLists.{in_first, in_rest, in_cases}
 use Rattle.kern_roots.proofs.ChangingBuckets.{holds_at, holds_from, not_in_rest, rest_once, differs, without, without_absent, same_chain, more_steps, fewer_steps, step_is, stop_is}

@@ -4,8 +4,8 @@ use Rattle.std.specs.List.{AllByRecursion}
 use Rattle.std.proofs.lemmas.Bool.{cases_Bool, ltb-true, ltb-false}
 use Rattle.std.proofs.lemmas.List.Elements.{All-from_recursion}
 use Rattle.zo_layout.specs.Layout.{word_of, coffer_entry, coffer_uid, path_bucket, bucket_of}
-use Rattle.tr_types.specs.KernelTables.{Coffer, path_in}
-use Rattle.tr_types.specs.PathMap.{entry_words, with_pair, no_words, leading_word, added_pairs, dropped_pairs, perm_pairs}
+use Rattle.kern_model.specs.KernelTables.{Coffer, path_in}
+use Rattle.kern_model.specs.PathMap.{entry_words, with_pair, no_words, leading_word, added_pairs, dropped_pairs, perm_pairs}
 use Rattle.kern_roots.specs.Laws.{PassesRoots, AreInOrder, OrderLaw}
 use Rattle.kern_roots.proofs.ChangingPairs.{placed}
 use Rattle.kern_roots.proofs.ChangingLayout.{bucket_behind}

@@ -6,7 +6,7 @@ use Rattle.std.proofs.lemmas.Bool.{cases_lt}
 use Rattle.std.proofs.lemmas.List.{take_all, take_at, take-append-le, append_assoc, drop-replicate, take_more, length-take, flat_map_more, length-replicate, replicate-append-replicate}
 use Rattle.std.proofs.lemmas.List.FromFn.{map-range_with_len_more, length-map-range_with_len}
 use Rattle.zo_layout.specs.Layout.{word_of, coffer_entry, coffer_next, path_bucket, bucket_of}
-use Rattle.tr_types.specs.PathMap as paths
+use Rattle.kern_model.specs.PathMap as paths
 use Rattle.kern_roots.specs.declared.types.Root.{Root}
 use Rattle.kern_roots.specs.Reading.{state_word}
 use Rattle.kern_roots.specs.Changes.{new_coffer}

@@ -1,8 +1,8 @@
 -- What is read once pairs are laid over what was read before.
 use Rattle.std.proofs.Common.{◌≡◌, ℕ, zero, suc, ◌+◌, ◌<◌, ◌≤◌, List, [], ◌∷◌, ◌++◌, length, get_or, cond, Bool, nat_eq, refl, ap, ◌∙◌, arith, eq-eqb, ne_eqb}
 use Rattle.zo_layout.specs.Layout.{word_of}
-use Rattle.tr_types.specs.Journal.{laid_over}
-use Rattle.tr_types.specs.PathMap.{from_address}
+use Rattle.kern_model.specs.Journal.{laid_over}
+use Rattle.kern_model.specs.PathMap.{from_address}
 use Rattle.kern_roots.proofs.ChangingPairs.{placed}
 
 pub laid_first : (a w : ℕ) (ps : List (ℕ × ℕ)) (addr d : ℕ) → a ≡ addr → laid_over ((a, w) ∷ ps) addr d ≡ laid_over ps addr w

@@ -3,10 +3,10 @@ use Rattle.std.proofs.Common.{◌≡◌, ℕ, suc, ◌+◌, ◌-◌, ◌<◌, �
 use Rattle.std.specs.List.{range_with_len, list_any}
 use Rattle.std.proofs.lemmas.Bool.{cases_Bool, and_parts, and_from, and_left, and_right, le-leb, leb-true}
 use Rattle.pm_words.specs.Word.{Word}
-use Rattle.tr_types.specs.KernelView.{pages_of}
-use Rattle.tr_types.specs.Journal.{kernel_word}
-use Rattle.tr_types.specs.KernelTables.{all_ids, is_id, coffers_in, coffer_in, stands_in, path_in}
-use Rattle.tr_types.specs.PathMap.{coffer_at_path}
+use Rattle.kern_model.specs.KernelView.{pages_of}
+use Rattle.kern_model.specs.Journal.{kernel_word}
+use Rattle.kern_model.specs.KernelTables.{all_ids, is_id, coffers_in, coffer_in, stands_in, path_in}
+use Rattle.kern_model.specs.PathMap.{coffer_at_path}
 use Rattle.tr_types.specs.Paths.{same_text}
 use Rattle.kern_roots.specs.Entries.{has_id}
 use Rattle.kern_roots.specs.Fronts.{IsCofferAt}

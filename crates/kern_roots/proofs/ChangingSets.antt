@@ -4,11 +4,13 @@ use Rattle.std.specs.List.{AllByRecursion}
 use Rattle.std.proofs.lemmas.Bool.{cases_eq}
 use Rattle.zo_layout.specs.Layout.{word_of, coffer_entry, coffer_state, path_bucket, bucket_of}
 use Rattle.tr_types.specs.Paths.{same_text}
-use Rattle.tr_types.specs.Journal.{laid_over}
-use Rattle.tr_types.specs.Kernel.{read_after}
-use Rattle.tr_types.specs.KernelTables.{is_there, stands_in, path_in, path_stands_twice, entry_fails}
-use Rattle.tr_types.specs.PathMap.{perm_pairs, state_pairs, root_pairs}
-use Rattle.kern_roots.specs.Laws.{PassesRoots, SameRoots, KeepsOwners, ChangesOne, PermLaw, StateLaw, RootLaw}
+use Rattle.kern_model.specs.Journal.{laid_over}
+use Rattle.kern_model.specs.Kernel.{read_after}
+use Rattle.kern_model.specs.KernelTables.{is_there, stands_in, path_in, path_stands_twice, entry_fails}
+use Rattle.kern_model.specs.PathMap.{perm_pairs, state_pairs, root_pairs}
+use Rattle.kern_roots.specs.Changes.{is_used}
+use Rattle.kern_roots.specs.Laws.{PassesRoots, SameRoots, KeepsOwners, ChangesOne, BucketsPass, PermLaw, StateLaw, RootLaw}
+use Rattle.tr_types.specs.declared.permission.Perm.{Perm}
 use Rattle.kern_roots.proofs.ChangingSearch.{there_at}
 use Rattle.kern_roots.proofs.ChangingLayout.{first_word, word_in_part, same_entry_word, entry_not_bucket}
 use Rattle.kern_roots.proofs.ChangingReads.{laid_past, laid_one, laid_hit}
@@ -57,14 +59,21 @@ pub record Touches (pages id : ℕ) (at after : ℕ → ℕ) : Type 0 where
   pub was : stands_in pages at id ≡ true
   pub there : stands_in pages after id ≡ true
 
-pub touched : (pages id : ℕ) (at after : ℕ → ℕ) → PassesRoots pages at → KeepsOwners pages id at after → Touches pages id at after → ChangesOne pages id at after
-touched pages id at after passes keeps t = record {
-  own = λ right. right_passes pages after id t.there right (same_path_rule pages at after id t.path ∙ before.path)
-      (twice_from pages after id (λ x l m s ne. ap (same_text (path_in pages after x)) (same_path_in pages at after id t.path) ∙ once x l m s ne))
-      (ap (λ (path : List ℕ). (id == 1) && not (same_text path (codes "/"))) (same_path_in pages at after id t.path) ∙ before.named);
-  others = λ other l m ne. same_coffer pages at after other (t.others other l m ne);
-  entries = others_pass pages at after id passes keeps t.others clash;
-  buckets = λ bucket h. bucket_stays pages at after bucket (t.buckets bucket h)
+module _ (pages id : ℕ) (at after : ℕ → ℕ) (t : Touches pages id at after) where
+  entry : (x : ℕ) → 1 ≤ x → x ≤ 256 → (x ≡ id) ⊎ (x ≡ id → ⊥) → (stands_in pages after x ≡ stands_in pages at x) × (path_in pages after x ≡ path_in pages at x)
+  entry x l m (inl e) =
+      subst (λ (k : ℕ). (stands_in pages after k ≡ stands_in pages at k) × (path_in pages after k ≡ path_in pages at k)) (sym e)
+      (t.there ∙ sym t.was, same_path_in pages at after id t.path)
+  entry x l m (inr ne) =
+      (ap is_there (same_state pages at after x (t.others x l m ne)), same_path_in pages at after x (λ i g h. t.others x l m ne i h (omega arith)))
+
+  next : (x : ℕ) → 1 ≤ x → x ≤ 256 → (x ≡ id) ⊎ (x ≡ id → ⊥) → next_in pages after x ≡ next_in pages at x
+  next x l m (inl e) = subst (λ (k : ℕ). next_in pages after k ≡ next_in pages at k) (sym e) t.next
+  next x l m (inr ne) = t.nexts x l m ne
+
+  pub same_buckets : BucketsPass pages at → BucketsPass pages after
+  same_buckets passes bucket h =
+      bucket_stays pages at after bucket (t.buckets bucket h)
       (λ x b. let r = belongs_parts pages at bucket x b in next x r.least r.most (cases_eq x id))
       (λ x b. let r = belongs_parts pages at bucket x b in
       let same = entry x r.least r.most (cases_eq x id) in
@@ -72,7 +81,19 @@ touched pages id at after passes keeps t = record {
       (λ x b. let r = belongs_parts pages after bucket x b in
       let same = entry x r.least r.most (cases_eq x id) in
       belongs_from pages at bucket x (record { least = r.least; most = r.most; there = sym same.0 ∙ r.there; hashed = ap bucket_of (sym same.1) ∙ r.hashed }))
-      (passes.buckets bucket h);
+      (passes bucket h)
+
+pub touched_buckets : (pages id : ℕ) (at after : ℕ → ℕ) → BucketsPass pages at → Touches pages id at after → BucketsPass pages after
+touched_buckets pages id at after passes t = same_buckets pages id at after t passes
+
+pub touched : (pages id : ℕ) (at after : ℕ → ℕ) → PassesRoots pages at → KeepsOwners pages id at after → Touches pages id at after → ChangesOne pages id at after
+touched pages id at after passes keeps t = record {
+  own = λ right. right_passes pages after id t.there right (same_path_rule pages at after id t.path ∙ before.path)
+      (twice_from pages after id (λ x l m s ne. ap (same_text (path_in pages after x)) (same_path_in pages at after id t.path) ∙ once x l m s ne))
+      (ap (λ (path : List ℕ). (id == 1) && not (same_text path (codes "/"))) (same_path_in pages at after id t.path) ∙ before.named);
+  others = λ other l m ne. same_coffer pages at after other (t.others other l m ne);
+  entries = others_pass pages at after id passes keeps t.others clash;
+  buckets = touched_buckets pages id at after passes.buckets t;
 }
   where
     before : Entry pages at id
@@ -82,17 +103,6 @@ touched pages id at after passes keeps t = record {
     once x l m s ne =
         ap (λ (path : List ℕ). same_text path (path_in pages at id)) (same_path_in pages at after x (λ i g h. t.others x l m ne i h (omega arith)))
         ∙ twice_at pages at id x before.once l m (sym (ap is_there (same_state pages at after x (t.others x l m ne))) ∙ s) ne
-
-    entry : (x : ℕ) → 1 ≤ x → x ≤ 256 → (x ≡ id) ⊎ (x ≡ id → ⊥) → (stands_in pages after x ≡ stands_in pages at x) × (path_in pages after x ≡ path_in pages at x)
-    entry x l m (inl e) =
-        subst (λ (k : ℕ). (stands_in pages after k ≡ stands_in pages at k) × (path_in pages after k ≡ path_in pages at k)) (sym e)
-        (t.there ∙ sym t.was, same_path_in pages at after id t.path)
-    entry x l m (inr ne) =
-        (ap is_there (same_state pages at after x (t.others x l m ne)), same_path_in pages at after x (λ i g h. t.others x l m ne i h (omega arith)))
-
-    next : (x : ℕ) → 1 ≤ x → x ≤ 256 → (x ≡ id) ⊎ (x ≡ id → ⊥) → next_in pages after x ≡ next_in pages at x
-    next x l m (inl e) = subst (λ (k : ℕ). next_in pages after k ≡ next_in pages at k) (sym e) t.next
-    next x l m (inr ne) = t.nexts x l m ne
 
     clash : (other : ℕ) → 1 ≤ other → other ≤ 256 → (other ≡ id → ⊥) → stands_in pages at other ≡ true → stands_in pages after id ≡ true
         → same_text (path_in pages after id) (path_in pages at other) ≡ false
@@ -148,6 +158,38 @@ touches pages id low high at after pairs l m top w same was there = record {
 
 -- The three changes.
 
+pub state_touches : (pages : ℕ) (at after : ℕ → ℕ) (id state : ℕ) → is_used pages at id ≡ true → is_there state ≡ true → SameRoots pages (read_after (state_pairs pages id state) at) after → Touches pages id at after
+state_touches pages at after id state has valid same =
+    let r = coffer_is_there pages at id has in
+    let entry = coffer_entry pages id in
+    let first = first_word entry in
+    let w : Within pages id 0 1 (state_pairs pages id state) = ((0, omega arith, omega arith, sym first), tt) in
+    let new : after (coffer_state entry) ≡ state =
+    ap after (sym first) ∙ same.entries id 0 r.0 r.1 (omega arith) ∙ laid_one entry state (word_of entry 0) (at (word_of entry 0)) (sym first) in
+    touches pages id 0 1 at after (state_pairs pages id state) r.0 r.1 (omega arith) w same r.2 (ap is_there new ∙ valid)
+
+-- where word 0 of the entry stays, the coffer is there still
+stands_still : (pages id : ℕ) (at after : ℕ → ℕ) → stands_in pages at id ≡ true → after (word_of (coffer_entry pages id) 0) ≡ at (word_of (coffer_entry pages id) 0) → stands_in pages after id ≡ true
+stands_still pages id at after was stay =
+    let first = first_word (coffer_entry pages id) in
+    ap is_there (ap after (sym first) ∙ stay ∙ ap at first) ∙ was
+
+pub root_touches : (pages : ℕ) (at after : ℕ → ℕ) (id page : ℕ) → is_used pages at id ≡ true → SameRoots pages (read_after (root_pairs pages id page) at) after → Touches pages id at after
+root_touches pages at after id page has same =
+    let r = coffer_is_there pages at id has in
+    let w : Within pages id 5 6 (root_pairs pages id page) = ((5, omega arith, omega arith, refl), tt) in
+    touches pages id 5 6 at after (root_pairs pages id page) r.0 r.1 (omega arith) w same r.2
+    (stands_still pages id at after r.2 (rest_stays pages id 5 6 at after (root_pairs pages id page) r.0 r.1 (omega arith) w same 0 (omega arith) (inl (omega arith))))
+
+pub perm_touches : (pages : ℕ) (at after : ℕ → ℕ) (id : ℕ) (perm : Perm) → is_used pages at id ≡ true → SameRoots pages (read_after (perm_pairs pages id perm) at) after → Touches pages id at after
+perm_touches pages at after id perm has same =
+    let r = coffer_is_there pages at id has in
+    let entry = coffer_entry pages id in
+    let w : Within pages id 1 4 (perm_pairs pages id perm) =
+    ((1, omega arith, omega arith, word_in_part entry 1 0), ((2, omega arith, omega arith, word_in_part entry 1 1), ((3, omega arith, omega arith, word_in_part entry 1 2), tt))) in
+    touches pages id 1 4 at after (perm_pairs pages id perm) r.0 r.1 (omega arith) w same r.2
+    (stands_still pages id at after r.2 (rest_stays pages id 1 4 at after (perm_pairs pages id perm) r.0 r.1 (omega arith) w same 0 (omega arith) (inl (omega arith))))
+
 pub state_is : StateLaw
 state_is pages at after id state passes has valid same keeps =
     let r = coffer_is_there pages at id has in
@@ -166,7 +208,7 @@ state_is pages at after id state passes has valid same keeps =
     let kind = stay 8 (omega arith) (omega arith) in
     let path = same_path_in pages at after id (λ i g h. stay i h (omega arith)) in (
       λ i. record { id = id; path = path i; perm = record { uid = uid i; gid = gid i; mode = mode i }; state = new i; kind = kind i; control = control i; root = root i },
-      touched pages id at after passes keeps (touches pages id 0 1 at after (state_pairs pages id state) r.0 r.1 (omega arith) w same r.2 (ap is_there new ∙ valid)),
+      touched pages id at after passes keeps (state_touches pages at after id state has valid same),
     )
 
 pub root_is : RootLaw
@@ -187,7 +229,7 @@ root_is pages at after id page passes has same keeps =
     let kind = stay 8 (omega arith) (inr (omega arith)) in
     let path = same_path_in pages at after id (λ i g h. stay i h (inr (omega arith))) in (
       λ i. record { id = id; path = path i; perm = record { uid = uid i; gid = gid i; mode = mode i }; state = state i; kind = kind i; control = control i; root = root i },
-      touched pages id at after passes keeps (touches pages id 5 6 at after (root_pairs pages id page) r.0 r.1 (omega arith) w same r.2 (ap is_there state ∙ r.2)),
+      touched pages id at after passes keeps (root_touches pages at after id page has same),
     )
 
 pub perm_is : PermLaw
@@ -214,5 +256,5 @@ perm_is pages at after id perm passes has same keeps =
     let kind = stay 8 (omega arith) (inr (omega arith)) in
     let path = same_path_in pages at after id (λ i g h. stay i h (inr (omega arith))) in (
       λ i. record { id = id; path = path i; perm = record { uid = uid i; gid = gid i; mode = mode i }; state = state i; kind = kind i; control = control i; root = root i },
-      touched pages id at after passes keeps (touches pages id 1 4 at after (perm_pairs pages id perm) r.0 r.1 (omega arith) w same r.2 (ap is_there state ∙ r.2)),
+      touched pages id at after passes keeps (perm_touches pages at after id perm has same),
     )

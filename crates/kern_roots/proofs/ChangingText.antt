@@ -1,17 +1,19 @@
 -- A path in the words of an entry: what is written there is read again.
 use Rattle.std.proofs.Common.{◌≡◌, ℕ, zero, suc, ◌+◌, ◌*◌, ◌<◌, ◌≤◌, ◌⊎◌, List, [], ◌∷◌, ◌++◌, length, take, drop, replicate, get_or, Bool, true, cond, ◌==◌, nat_le, nat_eq, codes, refl, ap, sym, subst, ◌∙◌, inl, inr, arith, eq-eqb, ne_eqb, eqb-true, length-append, length-take, length-drop}
 use Rattle.std.specs.List.{range_with_len, flat_map, AllByRecursion, list_all}
+use Rattle.std.specs.Prelude.{All}
+use Rattle.std.proofs.lemmas.List.Elements.{All-head, All-tail}
 use Rattle.std.specs.Int.{w64, to_le_bytes}
 use Rattle.std.proofs.lemmas.Bool.{cases_lt, cases_eq, and_parts, or_cases, true≢false, leb-true}
 use Rattle.std.proofs.lemmas.Nat.{le_bytes_8}
 use Rattle.std.proofs.lemmas.List.{take_at, take-take, take-append-le, drop-drop, take-append-drop, nil_from_length}
-use Rattle.tr_types.specs.Tree.{parts_of, in_first}
+use Rattle.tr_types.specs.Paths.{parts_of, in_first}
 use Rattle.tr_types.specs.Paths.{same_text, is_name_byte, is_name_text, are_names_after, is_path_text}
 use Rattle.kern_roots.proofs.ChangingPairs.{text_word}
 
 -- The bytes of a path are bytes.
 
-abbrev Small : List ℕ → Type 0
+abbrev pub Small : List ℕ → Type 0
 Small text = AllByRecursion (λ byte. byte < 256) text
 
 abbrev AreSmall : List (List ℕ) → Type 0
@@ -58,7 +60,7 @@ slash_small [] h = tt
 slash_small (byte ∷ []) h = let e = eqb-true byte 47 (and_parts (nat_eq byte 47) _ h).0 in (omega arith, tt)
 slash_small (byte ∷ next ∷ text) h = absurd (true≢false (sym (and_parts (nat_eq byte 47) _ h).1))
 
-small_path : (path : List ℕ) → is_path_text path ≡ true → Small path
+pub small_path : (path : List ℕ) → is_path_text path ≡ true → Small path
 small_path path h = by (or_cases (same_text path (codes "/")) (are_names_after (parts_of path)) h)
   where
     by : (same_text path (codes "/") ≡ true) ⊎ (are_names_after (parts_of path) ≡ true) → Small path
@@ -94,10 +96,14 @@ length_chunk : (text : List ℕ) (i : ℕ) → length (chunk text i) ≡ 8
 length_chunk text i =
     omega (arith, length-take 8 (drop (8 * i) text ++ replicate 8 0), length-append (drop (8 * i) text) (replicate 8 0))
 
-pub word_bytes : (text : List ℕ) (i : ℕ) → is_path_text text ≡ true → to_le_bytes w64 (text_word text i) ≡ chunk text i
+pub small_all : (text : List ℕ) → All (λ byte. byte < 256) text → Small text
+small_all [] all = tt
+small_all (byte ∷ text) all = (All-head (λ b. b < 256) byte text all, small_all text (All-tail (λ b. b < 256) byte text all))
+
+pub word_bytes : (text : List ℕ) (i : ℕ) → Small text → to_le_bytes w64 (text_word text i) ≡ chunk text i
 word_bytes text i h =
     le_bytes_8 (chunk text i) (text_word text i) (length_chunk text i)
-    (λ k. cut_small 8 (drop (8 * i) text ++ replicate 8 0) k (padded_at (drop (8 * i) text) 8 k (rest_small (8 * i) text (small_path text h)))) refl
+    (λ k. cut_small 8 (drop (8 * i) text ++ replicate 8 0) k (padded_at (drop (8 * i) text) 8 k (rest_small (8 * i) text h))) refl
 
 take_past : (xs ys : List ℕ) (m : ℕ) → take (length xs + m) (xs ++ ys) ≡ xs ++ take m ys
 take_past [] ys m = let e : 0 + m ≡ m = omega arith in ap (λ (k : ℕ). take k ys) e

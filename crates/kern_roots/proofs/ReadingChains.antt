@@ -5,7 +5,7 @@ use Rattle.std.specs.List.{range_with_len, list_all, list_any}
 use Rattle.std.proofs.lemmas.Bool.{and_parts, and_from, or_parts, or_cases, not-false, cases_eq, cond-true, cond-false, eqb-true, eq-eqb, ne_eqb}
 use Rattle.zo_layout.specs.Layout.{bucket_of, coffer_entry, coffer_next, path_bucket}
 use Rattle.tr_types.specs.Paths.{same_text}
-use Rattle.tr_types.specs.KernelTables.{all_ids, is_id, stands_in, path_in, path_stands_twice, chain_from, chain_in, longest_chain, is_in_chain, none_twice, belongs, bucket_fails}
+use Rattle.kern_model.specs.KernelTables.{all_ids, is_id, stands_in, path_in, path_stands_twice, chain_from, chain_in, longest_chain, is_in_chain, none_twice, belongs, bucket_fails}
 use Rattle.kern_roots.specs.Entries.{has_id}
 use Rattle.kern_roots.proofs.ReadingLists.{IsListed}
 use Rattle.kern_roots.proofs.ReadingPaths.{same_when}

@@ -6,13 +6,13 @@ use Rattle.std.specs.List.{range_with_len}
 use Rattle.std.proofs.lemmas.List.{map-id, take_all, length-take-le, length-append}
 use Rattle.std.proofs.lemmas.List.FromFn.{filter_of_map_range_with_len_more}
 use Rattle.pm_words.specs.Word.{Word}
-use Rattle.tr_types.specs.KernelView.{pages_of}
-use Rattle.tr_types.specs.Journal.{kernel_word}
+use Rattle.kern_model.specs.KernelView.{pages_of}
+use Rattle.kern_model.specs.Journal.{kernel_word}
 use Rattle.tr_types.specs.Paths.{same_text, is_path_text, begins_with, lies_under}
-use Rattle.tr_types.specs.Kernel.{coffers}
-use Rattle.tr_types.specs.KernelRules.{IsSoundKernel}
-use Rattle.tr_types.specs.KernelTables.{Coffer, is_id, stands_in, coffer_in}
-use Rattle.tr_types.specs.PathMap.{longest, coffer_of_path, coffer_above, is_coffer, children_of}
+use Rattle.kern_model.specs.Kernel.{coffers}
+use Rattle.kern_model.specs.KernelRules.{IsSoundKernel}
+use Rattle.kern_model.specs.KernelTables.{Coffer, is_id, stands_in, coffer_in}
+use Rattle.kern_model.specs.PathMap.{longest, coffer_of_path, coffer_above, is_coffer, children_of}
 use Rattle.kern_roots.specs.Reading.{found_of}
 use Rattle.kern_roots.specs.Entries.{has_coffer, path_of, coffer_of}
 use Rattle.kern_roots.specs.Fronts.{coffer_within, is_child_of}

@@ -2,8 +2,8 @@
 use Rattle.std.proofs.Common.{◌≡◌, ℕ, true, false, List, Some, None, refl, sym, ap, ◌∙◌, arith}
 use Rattle.std.specs.Prelude.{nat_le, nat_eq}
 use Rattle.std.proofs.lemmas.Bool.{and_from, and_parts, le-leb, leb-true, eq-eqb, eqb-true, false_from_ne_true}
-use Rattle.tr_types.specs.KernelTables.{Coffer, all_ids, is_id, stands_in, coffer_in, coffers_in}
-use Rattle.tr_types.specs.PathMap.{coffer_with}
+use Rattle.kern_model.specs.KernelTables.{Coffer, all_ids, is_id, stands_in, coffer_in, coffers_in}
+use Rattle.kern_model.specs.PathMap.{coffer_with}
 use Rattle.kern_roots.specs.Entries.{has_id}
 use Rattle.kern_roots.proofs.ReadingLists.{listed, IsListed, find_listed, find_none}
 

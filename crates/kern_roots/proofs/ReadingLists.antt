@@ -3,8 +3,8 @@ use Rattle.std.proofs.Common.{◌≡◌, ◌⊎◌, inl, inr, ℕ, zero, suc, �
 use Rattle.std.specs.Prelude.{fold, find, nat_lt}
 use Rattle.std.specs.List.{range_with_len}
 use Rattle.std.proofs.lemmas.Bool.{cases_eq, cond-true, cond-false, lt-ltb, le-ltb}
-use Rattle.tr_types.specs.KernelTables.{Coffer}
-use Rattle.tr_types.specs.PathMap.{longer}
+use Rattle.kern_model.specs.KernelTables.{Coffer}
+use Rattle.kern_model.specs.PathMap.{longer}
 
 -- what `make` gives of the numbers from `start` on, `count` of them, that pass the test
 abbrev pub listed : {X : Type 0} → (ℕ → X) → (ℕ → Bool) → ℕ → ℕ → List X

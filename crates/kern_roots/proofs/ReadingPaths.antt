@@ -6,7 +6,7 @@ use Rattle.std.proofs.lemmas.Bool.{cases_lt, cond-true, le-leb, false_from_ne_tr
 use Rattle.std.proofs.lemmas.List.{length-take, length-take-le, length-drop, take-take, take_all, drop-take}
 use Rattle.std.proofs.lemmas.Slice.Eq.{bytes_eq-Decides}
 use Rattle.tr_types.specs.Paths.{same_text}
-use Rattle.tr_types.specs.KernelTables.{path_in, path_length}
+use Rattle.kern_model.specs.KernelTables.{path_in, path_length}
 use Rattle.kern_roots.specs.Entries.{path_piece}
 use Rattle.kern_roots.proofs.ReadingPieces.{pieces, AreEights, length_pieces, piece_at, take_add, front_of_pieces}
 

@@ -5,11 +5,11 @@ use Rattle.std.proofs.lemmas.Bool.{ltb-true, leb-true, eqb-true, eq-eqb, not-fal
 use Rattle.std.proofs.lemmas.Nat.{and_le_r}
 use Rattle.zo_layout.specs.Layout.{coffer_entry, coffer_state, coffer_uid, coffer_gid, coffer_mode, coffer_control, coffer_root, coffer_kind}
 use Rattle.tr_types.specs.Paths.{same_text, is_path_text}
-use Rattle.tr_types.specs.KernelTables.{coffer_in, coffer_fails, entry_fails, path_in, path_fails, path_length, path_stands_twice, pages_fail, owns, is_id, is_mode, stands_in}
+use Rattle.kern_model.specs.KernelTables.{coffer_in, coffer_fails, entry_fails, path_in, path_fails, path_length, path_stands_twice, pages_fail, owns, is_id, is_mode, stands_in}
 use Rattle.pm_words.specs.Word.{Word}
-use Rattle.tr_types.specs.KernelView.{pages_of}
-use Rattle.tr_types.specs.Journal.{kernel_word}
-use Rattle.tr_types.specs.KernelRules.{IsSoundKernel}
+use Rattle.kern_model.specs.KernelView.{pages_of}
+use Rattle.kern_model.specs.Journal.{kernel_word}
+use Rattle.kern_model.specs.KernelRules.{IsSoundKernel}
 use Rattle.kern_roots.specs.Entries.{has_id, has_coffer}
 
 -- What stands in the entry of a coffer that is there.

@@ -6,7 +6,7 @@ use Rattle.std.proofs.lemmas.Bool.{or_cases, eqb-true, cases_eq, and_parts}
 use Rattle.std.proofs.lemmas.Bool.Decides.{Decides-eqb}
 use Rattle.std.proofs.lemmas.List.{take_all, take_at, get_or_at, length-append, take-append-drop, drop_more, append_assoc}
 use Rattle.std.proofs.lemmas.Slice.Eq.{bytes_eq-Decides, starts_is}
-use Rattle.tr_types.specs.Tree.{parts_of, in_first}
+use Rattle.tr_types.specs.Paths.{parts_of, in_first}
 use Rattle.tr_types.specs.Paths.{same_text, is_path_text, is_name_text, are_names_after, begins_with}
 use Rattle.kern_roots.proofs.ReadingPaths.{same_when}
 

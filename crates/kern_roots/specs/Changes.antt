@@ -1,8 +1,8 @@
 -- What the calls that change the coffer table answer: pairs of an address and the word that goes there. `at` gives the word
 -- that the kernel reads at an address.
 use Rattle.std.specs.Prelude.{◌≡◌, ℕ, List, Bool, true, false, Some, None, is_some, Result, Ok, Err, ⊤}
-use Rattle.tr_types.specs.KernelTables.{Coffer, coffers_in}
-use Rattle.tr_types.specs.PathMap.{coffer_at_path, coffer_with, free_id, added_pairs}
+use Rattle.kern_model.specs.KernelTables.{Coffer, coffers_in}
+use Rattle.kern_model.specs.PathMap.{coffer_at_path, coffer_with, free_id, added_pairs}
 use Rattle.kern_roots.specs.declared.types.Root.{Root}
 use Rattle.kern_roots.specs.declared.types.RootsFault.{RootsFault}
 use Rattle.kern_roots.specs.declared.types.RootsFault.TheVariants.{Taken, TooMany, NoCoffer, NoMemory}

@@ -2,9 +2,9 @@
 use Rattle.std.specs.Prelude.{◌≡◌, ◌≢◌, ℕ, List, length, take, filter, Bool, true, Option, Some, None, ◌&&◌, ◌||◌, ◌==◌, nat_le, slice_index}
 use Rattle.pm_words.specs.Word.{Word}
 use Rattle.tr_types.specs.Paths.{begins_with}
-use Rattle.tr_types.specs.Kernel.{coffers}
-use Rattle.tr_types.specs.KernelTables.{Coffer}
-use Rattle.tr_types.specs.PathMap.{longest, is_coffer, coffer_above}
+use Rattle.kern_model.specs.Kernel.{coffers}
+use Rattle.kern_model.specs.KernelTables.{Coffer}
+use Rattle.kern_model.specs.PathMap.{longest, is_coffer, coffer_above}
 use Rattle.kern_roots.specs.Entries.{has_coffer, path_of}
 
 -- a name of a path ends before the byte at a place: the path ends there too, or the byte is a `/`

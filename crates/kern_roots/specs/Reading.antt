@@ -1,7 +1,7 @@
 -- What the calls that read the coffer table answer.
 use Rattle.std.specs.Prelude.{◌≡◌, ℕ, List, length, Option, Some, None, if◌then◌else◌, ◌==◌}
 use Rattle.tr_types.specs.Paths.{same_text}
-use Rattle.tr_types.specs.KernelTables.{Coffer}
+use Rattle.kern_model.specs.KernelTables.{Coffer}
 use Rattle.kern_roots.specs.declared.types.Found.{Found}
 use Rattle.kern_roots.specs.declared.types.Root.{Root}
 use Rattle.kern_roots.specs.declared.types.RootState.{RootState}

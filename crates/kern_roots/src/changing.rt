@@ -1,9 +1,9 @@
 // What is to be stored where a coffer comes, goes or changes. Nothing is stored here.
 ghost use Rattle.std.specs.Prelude.{true, ◌≡◌, ◌≤◌, IfOk};
-ghost use Rattle.tr_types.specs.KernelView.{pages_of};
-ghost use Rattle.tr_types.specs.Journal.{kernel_word};
-ghost use Rattle.tr_types.specs.KernelRules.{IsSoundKernel};
-ghost use Rattle.tr_types.specs.PathMap as map;
+ghost use Rattle.kern_model.specs.KernelView.{pages_of};
+ghost use Rattle.kern_model.specs.Journal.{kernel_word};
+ghost use Rattle.kern_model.specs.KernelRules.{IsSoundKernel};
+ghost use Rattle.kern_model.specs.PathMap as map;
 ghost use Rattle.kern_roots.specs.Reading.{state_word};
 ghost use Rattle.kern_roots.specs.Entries.{has_coffer};
 ghost use Rattle.kern_roots.specs.Changes.{Adds, Changes, new_coffer};

@@ -1,5 +1,5 @@
 // Laws of the definitions alone.
-ghost use Rattle.kern_roots.specs.Laws.{AddLaw, DropLaw, OrderLaw, PermLaw, RootLaw, StateLaw};
+ghost use Rattle.kern_roots.specs.Laws.{AddLaw, BucketLaw, DropLaw, OrderLaw, PermLaw, RootLaw, StateLaw};
 
 /// After a coffer has come, it is as it was given, the others are as they were, and the table is sound
 /// where the new coffer's entry is.
@@ -29,6 +29,11 @@ pub fn state_law()
 /// coffer's own entry is.
 pub fn root_law()
     ensures { RootLaw }
+{}
+
+/// Each change keeps the rule of the path buckets, whatever text stands as a path: one that is none too.
+pub fn bucket_law()
+    ensures { BucketLaw }
 {}
 
 /// The pairs of each change stand in order of address.

@@ -11,6 +11,6 @@ mod reading;
 mod types;
 
 pub use changing::{add, drop_entry, set_perm, set_root, set_state};
-pub use laws::{add_law, drop_law, order_law, perm_law, root_law, state_law};
+pub use laws::{add_law, bucket_law, drop_law, order_law, perm_law, root_law, state_law};
 pub use reading::{above, children, entry_of, find, path_of};
 pub use types::{Found, Pairs, Root, RootState, RootsFault};

@@ -1,10 +1,10 @@
 // Which coffers there are, by number and by path.
 ghost use Rattle.std.specs.Prelude.{◌≡◌, IfOk, IfErr, OnOk, IsSome, Some, true, option_map};
 ghost use Rattle.tr_types.specs.Paths.{is_path_text};
-ghost use Rattle.tr_types.specs.Kernel.{coffers};
-ghost use Rattle.tr_types.specs.KernelRules.{IsSoundKernel};
-ghost use Rattle.tr_types.specs.KernelTables.{Coffer};
-ghost use Rattle.tr_types.specs.PathMap.{coffer_of_path, coffer_above, coffer_with, children_of};
+ghost use Rattle.kern_model.specs.Kernel.{coffers};
+ghost use Rattle.kern_model.specs.KernelRules.{IsSoundKernel};
+ghost use Rattle.kern_model.specs.KernelTables.{Coffer};
+ghost use Rattle.kern_model.specs.PathMap.{coffer_of_path, coffer_above, coffer_with, children_of};
 ghost use Rattle.kern_roots.specs.Reading.{root_of, found_of, IsRefused};
 ghost use Rattle.kern_roots.specs.Fronts.{is_child_of};
 
@@ -12,8 +12,9 @@ pub mod entry;
 pub mod fronts;
 
 use crate::types::{Found, Root, RootsFault};
-use entry::{IDS, is_there, read_path, read_root};
-use fronts::{ROOT, longest_front};
+use entry::{is_there, read_path, read_root};
+use fronts::longest_front;
+use kern_model::{LAST_COFFER, ROOT_COFFER};
 use pm_words::Words;
 use std::alloc::{AllocError, Global};
 use tr_types::Path;
@@ -94,7 +95,7 @@ fn list_children(alloc: Global, words: &Words, id: u16) -> Result<Vec<u16>, Allo
     ensures { IfOk result (λ ids. ids.items ≡ children_of (coffers words.now) id) }
 {
     let mut ids = Vec::new(alloc);
-    for other in 1..=IDS {
+    for other in 1..=LAST_COFFER {
         if is_child(alloc, words, other, id)? {
             ids.push(other)?;
         }
@@ -107,7 +108,7 @@ fn is_child(alloc: Global, words: &Words, other: u16, id: u16) -> Result<bool, A
     requires sound { IsSoundKernel words.now }
     ensures { IfOk result (λ child. child ≡ is_child_of words.now other id) }
 {
-    if other == ROOT || !is_there(words, other) {
+    if other == ROOT_COFFER || !is_there(words, other) {
         return Ok(false);
     }
     let path = read_path(alloc, words, other)?;

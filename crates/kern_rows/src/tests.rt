@@ -1,5 +1,3 @@
 mod calls;
-mod image;
-mod reader;
 mod roots;
-mod stand;
+mod three;

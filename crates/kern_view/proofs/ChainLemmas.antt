@@ -1,7 +1,7 @@
 use Rattle.std.proofs.Common.{◌≡◌, ◌⊎◌, inl, inr, ℕ, zero, suc, ◌<◌, ◌≤◌, List, [], ◌∷◌, length, Bool, true, false, not, ◌&&◌, ◌||◌, ◌==◌, refl, ap, sym, ◌∙◌, arith, subst, nat_eq, nat_le, replicate, get_or, set, get_or-set_same, get_or-set_other, length-set}
 use Rattle.std.specs.List.{list_all}
 use Rattle.std.proofs.lemmas.Bool.{and_parts, cases_eq, eq-eqb, ne_eqb, cond-true, cond-false, leb-true}
-use Rattle.tr_types.specs.KernelTables.{belongs, chain_from, is_id, is_in_chain, longest_chain, none_twice, path_in, stands_in}
+use Rattle.kern_model.specs.KernelTables.{belongs, chain_from, is_id, is_in_chain, longest_chain, none_twice, path_in, stands_in}
 use Rattle.zo_layout.specs.Layout.{bucket_of}
 
 abbrev unseen : List Bool → ℕ → Bool

@@ -3,12 +3,12 @@ use Rattle.std.proofs.lemmas.Bool.{both_ways, cases_lt}
 use Rattle.zo_layout.specs.Layout.{committed_word, owner_word, coffer_entry, path_bucket}
 use Rattle.pm_words.specs.Word.{Word}
 use Rattle.pm_words.specs.Memory.{word_at}
-use Rattle.tr_types.specs.KernelView.{pages_of}
-use Rattle.tr_types.specs.Journal.{kernel_word}
-use Rattle.tr_types.specs.KernelTables.{owner_fails, entry_fails, bucket_fails}
-use Rattle.tr_types.specs.KernelRules.{Stage, FailsFirst, FailsIn, IsFinishable, IsFirstFault, IsSoundKernel, Passes}
-use Rattle.tr_types.specs.KernelRules as rules
-use Rattle.kern_view.specs.Parts.{AreGoodTables, HasSuperblock, IsLeast}
+use Rattle.kern_model.specs.KernelView.{pages_of}
+use Rattle.kern_model.specs.Journal.{kernel_word}
+use Rattle.kern_model.specs.KernelTables.{owner_fails, entry_fails, bucket_fails}
+use Rattle.kern_model.specs.KernelRules.{Stage, FailsFirst, FailsIn, IsFinishable, IsFirstFault, IsSoundKernel, PassesStage}
+use Rattle.kern_model.specs.KernelRules as rules
+use Rattle.kern_view.specs.RuleParts.{AreGoodTables, HasSuperblock, IsLeast}
 
 -- ---- the tables, in order of address
 
@@ -73,7 +73,7 @@ good_tables words owners entries buckets = record {
 
 -- ---- the stages
 
-pub superblock_passes : (words : List Word) → HasSuperblock words → Passes words rules.Superblock
+pub superblock_passes : (words : List Word) → HasSuperblock words → PassesStage words rules.Superblock
 superblock_passes words has place (inl (is, wrong)) = wrong (ap (λ (addr : ℕ). (word_at words addr).present) is ∙ has.signature)
 superblock_passes words has place (inr (inl (is, wrong))) = wrong (ap (λ (addr : ℕ). (word_at words addr).present) is ∙ has.version)
 superblock_passes words has place (inr (inr (is, wrong))) = wrong (ap (λ (addr : ℕ). (word_at words addr).present) is ∙ has.count)
@@ -126,7 +126,7 @@ one_fault words place other (inr (inr (passed, pairs, first))) (inl second) = ab
 one_fault words place other (inr (inr (passed, pairs, first))) (inr (inl (_, second))) = absurd (pairs other second.fails)
 one_fault words place other (inr (inr (passed, pairs, first))) (inr (inr (_, _, second))) = one_of_stage words rules.Tables place other first second
 
-tables_pass : (words : List Word) → IsSoundKernel words → Passes words rules.Tables
+tables_pass : (words : List Word) → IsSoundKernel words → PassesStage words rules.Tables
 tables_pass words is place (inl (page, inside, _, wrong)) = both_ways (owner_fails (pages_of words) (kernel_word words) page) (is.owners page inside) wrong
 tables_pass words is place (inr (inl (id, from, to, _, wrong))) = both_ways (entry_fails (pages_of words) (kernel_word words) id) (is.entries id from to) wrong
 tables_pass words is place (inr (inr (bucket, inside, _, wrong))) = both_ways (bucket_fails (pages_of words) (kernel_word words) bucket) (is.buckets bucket inside) wrong

@@ -3,7 +3,7 @@ use Rattle.std.proofs.lemmas.Bool.{eq-eqb, ne_eqb, cases_eq}
 use Rattle.std.proofs.lemmas.List.{reverse-append}
 use Rattle.std.proofs.lemmas.List.Sums.{fold-append}
 use Rattle.std.specs.Map.{lookup}
-use Rattle.tr_types.specs.Journal.{laid_over}
+use Rattle.kern_model.specs.Journal.{laid_over}
 
 same_either_way : (a b : ℕ) → nat_eq a b ≡ nat_eq b a
 same_either_way a b = by (cases_eq a b)

@@ -1,6 +1,6 @@
 use Rattle.std.proofs.Common.{◌≡◌, ℕ, List, [], ◌∷◌, if◌then◌else◌, ◌==◌, refl, ap, ◌∙◌, nat_eq}
 use Rattle.std.specs.List.{slice_split, onto_first}
-use Rattle.tr_types.specs.Tree.{in_first, parts_of}
+use Rattle.tr_types.specs.Paths.{in_first, parts_of}
 
 front_of : (byte : ℕ) (parts : List (List ℕ)) → onto_first byte parts ≡ in_first byte parts
 front_of byte [] = refl

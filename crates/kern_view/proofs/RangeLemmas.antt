@@ -1,9 +1,9 @@
 use Rattle.std.proofs.Common.{◌≡◌, ◌⊎◌, inl, inr, ℕ, zero, suc, ◌+◌, ◌<◌, ◌≤◌, List, [], ◌∷◌, Bool, true, false, cond, not, ◌&&◌, ◌||◌, ◌==◌, refl, ap, sym, ◌∙◌, arith, subst}
 use Rattle.std.specs.List.{range_with_len, filter, list_any, list_all}
 use Rattle.std.proofs.lemmas.Bool.{and_parts, and_from, or_from, or_left, or_right, cases_eq, both_ways}
-use Rattle.tr_types.specs.KernelTables.{all_ids, stands_in, path_in, path_stands_twice}
+use Rattle.kern_model.specs.KernelTables.{all_ids, stands_in, path_in, path_stands_twice}
 use Rattle.tr_types.specs.Paths.{same_text}
-use Rattle.kern_view.specs.Parts.{has_path}
+use Rattle.kern_view.specs.RuleParts.{has_path}
 
 -- none of those that pass one test passes the other, where none of the range passes both
 pub none_passes : (p g : ℕ → Bool) (a n : ℕ) → ((k : ℕ) → a ≤ k → k < a + n → p k && g k ≡ false) → list_any g (filter p (range_with_len a n)) ≡ false

@@ -4,7 +4,7 @@ use Rattle.std.specs.List.{range_with_len, flat_map, list_any, list_all}
 use Rattle.std.specs.Int.{w64, to_le_bytes}
 use Rattle.zo_layout.specs.Layout.{page_at, word_of, kernel_pages, owner_table, owner_word, coffer_entry, path_bucket, bucket_of}
 use Rattle.tr_types.specs.Paths.{same_text, is_path_text}
-use Rattle.tr_types.specs.KernelTables.{all_ids, bucket_fails, chain_from, chain_in, belongs, coffer_fails, coffer_in, entry_fails, is_id, is_in_chain, is_mode, is_there, longest_chain, none_twice, owner_fails, owner_in, pages_fail, path_in, path_stands_twice, stands_in}
+use Rattle.kern_model.specs.KernelTables.{all_ids, bucket_fails, chain_from, chain_in, belongs, coffer_fails, coffer_in, entry_fails, is_id, is_in_chain, is_mode, is_there, longest_chain, none_twice, owner_fails, owner_in, pages_fail, path_in, path_stands_twice, stands_in}
 
 -- the readers agree on each word from the owner table on
 pub record ReadSame (pages : ℕ) (a b : ℕ → ℕ) : Type 0 where

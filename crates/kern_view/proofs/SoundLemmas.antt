@@ -6,10 +6,10 @@ use Rattle.std.proofs.lemmas.List.Elements.{All-head, All-tail, All-weaker}
 use Rattle.zo_layout.specs.Layout.{signature_word, version_word, count_word, page_at, owner_table}
 use Rattle.pm_words.specs.Word.{Word, settled}
 use Rattle.pm_words.specs.Memory.{word_at, HasPages}
-use Rattle.tr_types.specs.KernelView.{pages_of}
-use Rattle.tr_types.specs.Journal.{IsHome, IsReadable, committed, committed_count, kernel_word, laid_over, pair_at}
-use Rattle.tr_types.specs.KernelTables.{owner_fails, entry_fails, bucket_fails}
-use Rattle.tr_types.specs.KernelRules.{IsSoundKernel}
+use Rattle.kern_model.specs.KernelView.{pages_of}
+use Rattle.kern_model.specs.Journal.{IsHome, IsReadable, committed, committed_count, kernel_word, laid_over, pair_at}
+use Rattle.kern_model.specs.KernelTables.{owner_fails, entry_fails, bucket_fails}
+use Rattle.kern_model.specs.KernelRules.{IsSoundKernel}
 use Rattle.kern_view.proofs.SameTables.{ReadSame, same_owner_fails, same_entry_fails, same_bucket_fails}
 
 -- pairs for other addresses say nothing of this one

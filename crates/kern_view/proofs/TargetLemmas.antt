@@ -3,10 +3,10 @@ use Rattle.std.proofs.lemmas.List.FromFn.{length-map-range_with_len, get_or-map-
 use Rattle.zo_layout.specs.Layout.{signature_word, version_word, count_word, pair_address, pair_capacity}
 use Rattle.pm_words.specs.Word.{Word}
 use Rattle.pm_words.specs.Memory.{word_at}
-use Rattle.tr_types.specs.KernelView.{pages_of}
-use Rattle.tr_types.specs.Journal.{IsHome, committed, committed_count, pair_at}
-use Rattle.tr_types.specs.KernelRules.{IsFinishable}
-use Rattle.kern_view.specs.Parts.{IsTarget}
+use Rattle.kern_model.specs.KernelView.{pages_of}
+use Rattle.kern_model.specs.Journal.{IsHome, committed, committed_count, pair_at}
+use Rattle.kern_model.specs.KernelRules.{IsFinishable}
+use Rattle.kern_view.specs.RuleParts.{IsTarget}
 
 abbrev IsSpared : ℕ → Type 0
 IsSpared addr = (addr ≢ signature_word) × (addr ≢ version_word) × (addr ≢ count_word)

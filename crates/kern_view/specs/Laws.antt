@@ -1,7 +1,7 @@
 -- What is true of the first fault of any words.
 use Rattle.std.specs.Prelude.{◌≡◌, ℕ, List}
 use Rattle.pm_words.specs.Word.{Word}
-use Rattle.tr_types.specs.KernelRules.{IsFirstFault, IsSoundKernel}
+use Rattle.kern_model.specs.KernelRules.{IsFirstFault, IsSoundKernel}
 
 -- there is at most one first fault, and none where no rule fails
 abbrev pub FaultLaw : Type 0

@@ -1,9 +1,9 @@
 -- What is read once for all: the committed pairs, and the paths of the coffers.
 use Rattle.std.specs.Prelude.{◌≡◌, ℕ, List, map, Option, Some, None, if◌then◌else◌}
 use Rattle.pm_words.specs.Word.{Word}
-use Rattle.tr_types.specs.KernelView.{pages_of}
-use Rattle.tr_types.specs.Journal.{committed, kernel_word, laid_over}
-use Rattle.tr_types.specs.KernelTables.{all_ids, path_in, stands_in}
+use Rattle.kern_model.specs.KernelView.{pages_of}
+use Rattle.kern_model.specs.Journal.{committed, kernel_word, laid_over}
+use Rattle.kern_model.specs.KernelTables.{all_ids, path_in, stands_in}
 
 -- these pairs say at each address what the committed ones say
 abbrev pub AreLaid : List Word → List (ℕ × ℕ) → Type 0

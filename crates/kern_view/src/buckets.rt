@@ -1,12 +1,13 @@
 // The rule of the path buckets.
 ghost use Rattle.std.specs.Prelude.{◌≡◌, ℕ, ◌<◌, ◌≤◌, ◌&&◌, not, length, true, false, slice_index_or};
 ghost use Rattle.std.specs.List.{list_all, filter};
-ghost use Rattle.tr_types.specs.KernelView.{pages_of};
-ghost use Rattle.tr_types.specs.Journal.{kernel_word};
-ghost use Rattle.tr_types.specs.KernelTables as spec;
-ghost use Rattle.kern_view.specs.Parts.{IsLeast, is_in_bucket};
+ghost use Rattle.kern_model.specs.KernelView.{pages_of};
+ghost use Rattle.kern_model.specs.Journal.{kernel_word};
+ghost use Rattle.kern_model.specs.KernelTables as spec;
+ghost use Rattle.kern_view.specs.RuleParts.{IsLeast, is_in_bucket};
 
-use crate::tables::{COFFERS, Tables};
+use crate::tables::Tables;
+use kern_model::LAST_COFFER;
 use zo_layout::{coffer_next, path_bucket};
 
 /// A mark for each coffer by its number; that of number 0 stays unused.
@@ -63,7 +64,7 @@ impl<'a> Tables<'a> {
         requires { length seen.now ≡ 257 }
         ensures { result ≡ not (list_all (λ id. slice_index_or seen.now id false) (filter (spec.belongs (pages_of self.now) (kernel_word self.now) bucket) spec.all_ids)) }
     {
-        for id in 1..COFFERS + 1 {
+        for id in 1..LAST_COFFER + 1 {
             if self.belongs(bucket, u64::from(id)) && !seen[usize::from(id)] {
                 return true;
             }

@@ -1,28 +1,24 @@
 // The rule of the coffer table.
 ghost use Rattle.std.specs.Prelude.{◌≡◌, ℕ, ◌<◌, ◌≤◌, ◌&&◌, ◌||◌, ◌==◌, not, codes, ◌+◌, ◌/◌, ◌%◌, ◌^◌, length};
 ghost use Rattle.zo_layout.specs.Layout.{coffer_entry as coffer_entry_at};
-ghost use Rattle.tr_types.specs.KernelView.{pages_of};
-ghost use Rattle.tr_types.specs.Journal.{kernel_word};
-ghost use Rattle.tr_types.specs.KernelTables as spec;
+ghost use Rattle.kern_model.specs.KernelView.{pages_of};
+ghost use Rattle.kern_model.specs.Journal.{kernel_word};
+ghost use Rattle.kern_model.specs.KernelTables as spec;
 ghost use Rattle.tr_types.specs.Paths.{same_text};
-ghost use Rattle.kern_view.specs.Parts.{IsLeast, claims_fail, fields_fail, has_path, perm_fails};
+ghost use Rattle.kern_view.specs.RuleParts.{IsLeast, claims_fail, fields_fail, has_path, perm_fails};
 
 use crate::hashed::HashedPath;
 use crate::paths::is_path_text;
-use crate::tables::{COFFERS, Tables};
+use crate::tables::Tables;
+use kern_model::{LAST_COFFER, ROOT_COFFER};
 use zo_layout::{
     coffer_control, coffer_entry, coffer_gid, coffer_kind, coffer_mode, coffer_root, coffer_state,
     coffer_uid,
 };
 
-/// The number of the root coffer.
-const ROOT: u16 = 1;
+const LAST_USER: u64 = kern_model::LAST_USER as u64;
 
-/// The greatest uid and gid.
-const MOST_USER: u64 = 0xffff_ffff;
-
-/// The bits that a mode may have.
-const MODE_BITS: u64 = 0o666;
+const MODE_BITS: u64 = kern_model::MODE_BITS as u64;
 
 /// The state of an entry that is no coffer's.
 const NONE: u64 = 0;
@@ -35,7 +31,7 @@ impl<'a> Tables<'a> {
     pub fn first_bad_entry(&self) -> Option<u16>
         ensures { IsLeast (spec.entry_fails (pages_of self.now) (kernel_word self.now)) 1 257 result }
     {
-        for id in 1..COFFERS + 1 {
+        for id in 1..LAST_COFFER + 1 {
             if self.entry_fails(id) {
                 return Some(id);
             }
@@ -50,7 +46,7 @@ impl<'a> Tables<'a> {
     {
         match self.path(id) {
             Some(path) => self.coffer_fails(id, path),
-            None => self.word(coffer_state(self.entry(id))) != NONE || id == ROOT,
+            None => self.word(coffer_state(self.entry(id))) != NONE || id == ROOT_COFFER,
         }
     }
 
@@ -92,8 +88,8 @@ impl<'a> Tables<'a> {
     {
         let entry = self.entry(id);
         let mode = self.word(coffer_mode(entry));
-        self.word(coffer_uid(entry)) > MOST_USER
-            || self.word(coffer_gid(entry)) > MOST_USER
+        self.word(coffer_uid(entry)) > LAST_USER
+            || self.word(coffer_gid(entry)) > LAST_USER
             || mode & MODE_BITS != mode
     }
 
@@ -121,7 +117,7 @@ impl<'a> Tables<'a> {
         requires path { path.now ≡ spec.path_in (pages_of self.now) (kernel_word self.now) id }
         ensures { result ≡ spec.path_stands_twice (pages_of self.now) (kernel_word self.now) id }
     {
-        for other in 1..COFFERS + 1 {
+        for other in 1..LAST_COFFER + 1 {
             if other != id && self.has_path(other, path) {
                 return true;
             }
@@ -158,5 +154,5 @@ impl<'a> Tables<'a> {
 fn is_misplaced(id: u16, path: &HashedPath) -> bool
     ensures { result ≡ ((id == 1) && not (same_text path.now (codes "/"))) }
 {
-    id == ROOT && path.as_bytes() != b"/".as_slice()
+    id == ROOT_COFFER && path.as_bytes() != b"/".as_slice()
 }

@@ -1,9 +1,9 @@
 // The first rule that fails.
 ghost use Rattle.std.specs.Prelude.{◌≡◌, length, MatchOption, IfOk};
 ghost use Rattle.pm_words.specs.Memory.{HasPages};
-ghost use Rattle.tr_types.specs.KernelRules.{FailsFirst, IsFirstFault, IsSoundKernel};
-ghost use Rattle.tr_types.specs.KernelRules as rules;
-ghost use Rattle.kern_view.specs.Parts.{AreGoodTables};
+ghost use Rattle.kern_model.specs.KernelRules.{FailsFirst, IsFirstFault, IsSoundKernel};
+ghost use Rattle.kern_model.specs.KernelRules as rules;
+ghost use Rattle.kern_view.specs.RuleParts.{AreGoodTables};
 
 use crate::superblock::{is_finishable, superblock_fault};
 use crate::tables::Tables;

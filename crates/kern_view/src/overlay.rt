@@ -1,7 +1,7 @@
 // Values laid over the words of an image.
 ghost use Rattle.std.specs.Prelude.{◌≡◌, ℕ, IfOk};
 ghost use Rattle.std.specs.Map.{lookup};
-ghost use Rattle.tr_types.specs.Journal.{laid_over};
+ghost use Rattle.kern_model.specs.Journal.{laid_over};
 
 use indexmap::IndexMap;
 use pm_words::NoMemory;

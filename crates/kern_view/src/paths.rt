@@ -1,7 +1,7 @@
 // Which texts are paths.
 ghost use Rattle.std.specs.Prelude.{◌≡◌, ◌==◌, ◌&&◌, not, length};
 ghost use Rattle.std.specs.List.{list_all};
-ghost use Rattle.tr_types.specs.Tree.{parts_of};
+ghost use Rattle.tr_types.specs.Paths.{parts_of};
 ghost use Rattle.tr_types.specs.Paths as spec;
 
 /// Whether a text is a path: `/`, or names that each stand after a `/`.

@@ -1,21 +1,16 @@
 // Whether the superblock and the journal can be used.
 ghost use Rattle.std.specs.Prelude.{◌≡◌, ◌↔◌, ◌<◌, ◌≤◌, ◌/◌, length, true, MatchOption, IsTrue};
 ghost use Rattle.pm_words.specs.Memory.{word_at, HasPages};
-ghost use Rattle.tr_types.specs.KernelView.{pages_of};
-ghost use Rattle.tr_types.specs.KernelRules as rules;
-ghost use Rattle.kern_view.specs.Parts.{HasSuperblock, IsTarget};
+ghost use Rattle.kern_model.specs.KernelView.{pages_of};
+ghost use Rattle.kern_model.specs.KernelRules as rules;
+ghost use Rattle.kern_view.specs.RuleParts.{HasSuperblock, IsTarget};
 
 use kern_journal::{capacity, committed_count};
+use kern_model::{TREASURY, VERSION};
 use pm_words::Words;
 use zo_layout::{
     WORD_BYTES, count_word, owner_table, page_at, pair_address, signature_word, version_word,
 };
-
-/// The bytes `TREASURY`, the first one lowest.
-const TREASURY: u64 = 0x5952555341455254;
-
-/// The version of the format.
-const VERSION: u64 = 1;
 
 /// The first address of the superblock at which a word isn't as an image of this size has it.
 pub fn superblock_fault(words: &Words) -> Option<u64>

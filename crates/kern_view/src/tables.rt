@@ -2,14 +2,15 @@
 ghost use Rattle.std.specs.Prelude.{◌≡◌, ℕ, ◌<◌, ◌≤◌, ◌&&◌, not, length, true, IfOk, option_map};
 ghost use Rattle.std.specs.List.{list_all, filter};
 ghost use Rattle.pm_words.specs.Memory.{IsAddress, HasPages};
-ghost use Rattle.tr_types.specs.KernelView.{pages_of};
-ghost use Rattle.tr_types.specs.Journal.{kernel_word, IsReadable};
-ghost use Rattle.tr_types.specs.KernelTables as spec;
+ghost use Rattle.kern_model.specs.KernelView.{pages_of};
+ghost use Rattle.kern_model.specs.Journal.{kernel_word, IsReadable};
+ghost use Rattle.kern_model.specs.KernelTables as spec;
 ghost use Rattle.kern_view.specs.Reads.{path_there, paths_there};
-ghost use Rattle.kern_view.specs.Parts.{IsLeast};
+ghost use Rattle.kern_view.specs.RuleParts.{IsLeast};
 
 use crate::hashed::HashedPath;
 use crate::view::View;
+use kern_model::LAST_COFFER;
 use pm_words::{NoMemory, Words};
 use std::alloc::Global;
 use std::marker::Model;
@@ -17,20 +18,14 @@ use zo_layout::{
     coffer_entry, coffer_path_length, coffer_path_word, coffer_state, kernel_pages, owner_word,
 };
 
-/// What the owner table says of a page that is nobody's.
-const NOBODY: u64 = 0;
+const NOBODY: u64 = kern_model::NOBODY as u64;
 
-/// What the owner table says of the kernel's pages.
-const KERNEL: u64 = 65535;
-
-/// Coffers have the numbers 1 to 256.
-pub const COFFERS: u16 = 256;
+const KERNEL: u64 = kern_model::KERNEL as u64;
 
 /// Words of a path in the entry of its coffer.
 const PATH_WORDS: u32 = 55;
 
-/// Bytes of a path in the entry of its coffer.
-const PATH_BYTES: u64 = 440;
+const LONGEST_PATH: u64 = kern_model::LONGEST_PATH as u64;
 
 /// The kernel's tables as they are read, with the path of each coffer read once.
 #[derive(Drop)]
@@ -96,7 +91,7 @@ impl<'a> Tables<'a> {
         ensures least { result ≡ true → 1 ≤ word }
         ensures most { result ≡ true → word ≤ 256 }
     {
-        word >= 1 && word <= u64::from(COFFERS) && self.path(word as u16).is_some()
+        word >= 1 && word <= u64::from(LAST_COFFER) && self.path(word as u16).is_some()
     }
 
     /// Whose a page is.
@@ -137,8 +132,8 @@ impl<'a> Tables<'a> {
 fn read_paths(alloc: Global, view: &View) -> Result<Vec<Option<HashedPath>>, NoMemory>
     ensures { IfOk result (λ paths. paths.items ≡ paths_there view.now) }
 {
-    let mut paths = Vec::with_capacity(alloc, usize::from(COFFERS))?;
-    for id in 1..COFFERS + 1 {
+    let mut paths = Vec::with_capacity(alloc, usize::from(LAST_COFFER))?;
+    for id in 1..LAST_COFFER + 1 {
         paths.push(read_coffer(alloc, view, id)?)?;
     }
     Ok(paths)
@@ -164,10 +159,10 @@ fn read_path(alloc: Global, view: &View, id: u16) -> Result<HashedPath, NoMemory
 {
     let entry = coffer_entry(view.pages(), id);
     let length = view.word(coffer_path_length(entry));
-    if length > PATH_BYTES {
+    if length > LONGEST_PATH {
         return Ok(HashedPath::new(Vec::new(alloc)));
     }
-    let mut bytes = Vec::with_capacity(alloc, PATH_BYTES as usize)?;
+    let mut bytes = Vec::with_capacity(alloc, LONGEST_PATH as usize)?;
     for i in 0..PATH_WORDS {
         bytes.extend_from_slice(&view.word(coffer_path_word(entry, i)).to_le_bytes())?;
     }

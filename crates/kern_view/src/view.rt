@@ -1,8 +1,8 @@
 // The words of an image as the kernel reads them.
 ghost use Rattle.std.specs.Prelude.{◌≡◌, length, IfOk};
 ghost use Rattle.pm_words.specs.Memory.{IsAddress, HasPages};
-ghost use Rattle.tr_types.specs.KernelView.{pages_of};
-ghost use Rattle.tr_types.specs.Journal.{kernel_word, IsReadable};
+ghost use Rattle.kern_model.specs.KernelView.{pages_of};
+ghost use Rattle.kern_model.specs.Journal.{kernel_word, IsReadable};
 
 use crate::overlay::Overlay;
 use kern_journal::committed;

@@ -4,18 +4,18 @@ use Rattle.std.specs.Prelude.{OnOk, is_err, Result, Ok, Err}
 use Rattle.std.proofs.lemmas.Bool.{or_parts, both_ways}
 use Rattle.std.proofs.lemmas.List.Elements.{filter_agree}
 use Rattle.tr_types.specs.declared.kernel_call.Holder.{Holder}
-use Rattle.tr_types.specs.KernelCalls.{holds_any}
-use Rattle.tr_types.specs.Rights.{process_of, is_same, is_row_of, without_row, key_for, IsLeastOf}
+use Rattle.kern_model.specs.KernelCalls.{holds_any}
+use Rattle.kern_model.specs.Rights.{process_of, is_same, is_row_of, without_row, key_for, IsLeastOf}
 use Rattle.page_rights.specs.declared.mapping.Mapping.{Mapping}
 use Rattle.page_rights.specs.Tables.{View, without_process, with_holders, unmapped}
-use Rattle.page_rights.specs.Lookup.{process_at, without_process_in, key_for_in, AreTied}
+use Rattle.page_rights.specs.Lookup.{process_at, without_process_in, key_for_in, TablesAgree}
 use Rattle.page_rights.proofs.RowLemmas.{key_for_by_thread}
 
 pub same_tied : (threads : List (ℕ × ℕ)) (processes : List (Option ℕ)) (holders holders_now : List Holder) (mappings mappings_now : List (Option Mapping))
-    → holders_now ≡ holders → mappings_now ≡ mappings → AreTied threads processes holders mappings → AreTied threads processes holders_now mappings_now
+    → holders_now ≡ holders → mappings_now ≡ mappings → TablesAgree threads processes holders mappings → TablesAgree threads processes holders_now mappings_now
 same_tied threads processes holders holders_now mappings mappings_now h m tied =
-    subst (λ (hs : List Holder). AreTied threads processes hs mappings_now) (sym h)
-    (subst (λ (ms : List (Option Mapping)). AreTied threads processes holders ms) (sym m) tied)
+    subst (λ (hs : List Holder). TablesAgree threads processes hs mappings_now) (sym h)
+    (subst (λ (ms : List (Option Mapping)). TablesAgree threads processes holders ms) (sym m) tied)
 
 -- there is one least thread
 pub least_is_one : (threads : List ℕ) (t u : ℕ) → IsLeastOf threads t → IsLeastOf threads u → t ≡ u
@@ -44,7 +44,7 @@ nothing_unmapped v holders view thread coffer absent =
     sym (ap (λ (hs : List Holder). with_holders hs v) (same_rows thread coffer v.holders (ap (λ (hs : List Holder). holds_any thread coffer hs) (sym view) ∙ absent)))
 
 -- the key, by the thread
-pub key_by_view : (threads : List (ℕ × ℕ)) (processes processes_read : List (Option ℕ)) (holders holders_read : List Holder) (mappings : List (Option Mapping)) (tied : AreTied threads processes holders mappings)
+pub key_by_view : (threads : List (ℕ × ℕ)) (processes processes_read : List (Option ℕ)) (holders holders_read : List Holder) (mappings : List (Option Mapping)) (tied : TablesAgree threads processes holders mappings)
     (owners : List ℕ) (v : View) (view : (record { threads = threads; holders = holders; owners = owners }) ≡ v) (thread process id : ℕ) (found : Option ℕ)
     → process_at processes thread ≡ Some process → processes_read ≡ processes → holders_read ≡ holders → found ≡ key_for_in processes_read holders_read process id
     → (key_for_in processes holders process id ≡ found) × (key_for v.threads v.holders thread id ≡ found)

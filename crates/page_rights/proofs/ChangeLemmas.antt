@@ -5,17 +5,17 @@ use Rattle.std.proofs.lemmas.Bool.{cases_eq, eq-eqb, eqb-true, eqb-false, ne_eqb
 use Rattle.std.proofs.lemmas.List.{length-set}
 use Rattle.std.proofs.lemmas.List.Elements.{All-nil, All-filter, filter_passes, All-contains, All-contains_itself, All-push, All-weaker, Contains-push_cases}
 use Rattle.tr_types.specs.declared.kernel_call.Holder.{Holder}
-use Rattle.tr_types.specs.KernelCalls.{without_coffer}
-use Rattle.tr_types.specs.Rights.{process_of, is_same, is_row_of, without_row, with_row, first_of, or_key}
+use Rattle.kern_model.specs.KernelCalls.{without_coffer}
+use Rattle.kern_model.specs.Rights.{process_of, is_same, is_row_of, without_row, with_row, first_of, or_key}
 use Rattle.page_rights.specs.declared.mapping.Mapping.{Mapping}
 use Rattle.page_rights.specs.Tables.{IsRow}
-use Rattle.page_rights.specs.Lookup.{process_at, is_in, holds_in, uses_key_in, is_free_in, free_in, key_of, key_for_in, without_process_in, mapping_of, mapping_at, place_of, AreTied}
+use Rattle.page_rights.specs.Lookup.{process_at, is_in, holds_in, uses_key_in, is_free_in, free_in, key_of, key_for_in, without_process_in, mapping_of, mapping_at, place_of, TablesAgree}
 use Rattle.page_rights.proofs.OneRow.{one_filtered, one_with_row}
 use Rattle.page_rights.proofs.RowLemmas.{mapping_of_filter, mapping_of_push, mapping_of_none, mapping_of_threads, key_found, no_key, free_key, first_found}
 
 -- Nothing yet.
 
-pub tied_new : (processes : List (Option ℕ)) (mappings : List (Option Mapping)) → length processes ≡ 256 → ((k : ℕ) → get_or processes k None ≡ None) → length mappings ≡ 16448 → ((k : ℕ) → get_or mappings k None ≡ None) → AreTied [] processes [] mappings
+pub tied_new : (processes : List (Option ℕ)) (mappings : List (Option Mapping)) → length processes ≡ 256 → ((k : ℕ) → get_or processes k None ≡ None) → length mappings ≡ 16448 → ((k : ℕ) → get_or mappings k None ≡ None) → TablesAgree [] processes [] mappings
 tied_new processes mappings numbers nobody places nothing = record {
   numbers = numbers;
   starts = nobody;
@@ -81,11 +81,11 @@ kept_put processes old new mappings here coffer small bound places kept others p
         ∙ kept process id small_process bound_id
         ∙ sym (others process id elsewhere)
 
-module _ (threads : List (ℕ × ℕ)) (processes : List (Option ℕ)) (holders : List Holder) (mappings : List (Option Mapping)) (tied : AreTied threads processes holders mappings) where
+module _ (threads : List (ℕ × ℕ)) (processes : List (Option ℕ)) (holders : List Holder) (mappings : List (Option Mapping)) (tied : TablesAgree threads processes holders mappings) where
   -- Fewer rows.
 
   tied_filtered : (keep : Holder → Bool) (now : List (Option Mapping)) → length now ≡ 16448 → ((process id : ℕ) → process < 64 → id ≤ 256 → mapping_at now process id ≡ mapping_of processes (filter keep holders) process id)
-      → AreTied threads processes (filter keep holders) now
+      → TablesAgree threads processes (filter keep holders) now
   tied_filtered keep now places kept = record {
     numbers = tied.numbers;
     starts = tied.starts;
@@ -151,7 +151,7 @@ module _ (threads : List (ℕ × ℕ)) (processes : List (Option ℕ)) (holders 
     in_same : (h : Holder) (p : ℕ) → Contains holders h → is_in after h.thread p ≡ is_in processes h.thread p
     in_same h p has = ap (λ (o : Option ℕ). is_same o (Some p)) (All-contains (λ h. process_at after h.thread ≡ process_at processes h.thread) holders h rows_same has)
 
-    pub tied_started : AreTied (threads ++ (thread, process) ∷ []) (set processes thread (Some process)) holders mappings
+    pub tied_started : TablesAgree (threads ++ (thread, process) ∷ []) (set processes thread (Some process)) holders mappings
     tied_started = record {
       numbers = length-set processes thread (Some process) ∙ tied.numbers;
       starts = λ t. starts_at t (cases_eq t thread);
@@ -167,7 +167,7 @@ module _ (threads : List (ℕ × ℕ)) (processes : List (Option ℕ)) (holders 
   -- Unmap.
 
   pub tied_unmapped : (thread coffer here : ℕ) → process_at processes thread ≡ Some here → coffer ≤ 256
-      → AreTied threads processes (without_row thread coffer holders) (set mappings (place_of here coffer) (mapping_of processes (without_row thread coffer holders) here coffer))
+      → TablesAgree threads processes (without_row thread coffer holders) (set mappings (place_of here coffer) (mapping_of processes (without_row thread coffer holders) here coffer))
   tied_unmapped thread coffer here is bound =
       tied_filtered (λ h. not (is_row_of thread coffer h)) (set mappings (place_of here coffer) (mapping_of processes (without_row thread coffer holders) here coffer))
       (length-set mappings (place_of here coffer) (mapping_of processes (without_row thread coffer holders) here coffer) ∙ tied.places)
@@ -248,7 +248,7 @@ module _ (threads : List (ℕ × ℕ)) (processes : List (Option ℕ)) (holders 
         ∙ mapping_of_filter processes process id (λ h. not (is_row_of row.thread row.id h)) holders
         (λ h goes. row_elsewhere processes row.thread here row.id process id is elsewhere h (dropped_row row.thread row.id h goes).0 (dropped_row row.thread row.id h goes).1)
 
-    pub tied_mapped : AreTied threads processes (with_row row holders) (set mappings (place_of here row.id) (mapping_of processes (with_row row holders) here row.id))
+    pub tied_mapped : TablesAgree threads processes (with_row row holders) (set mappings (place_of here row.id) (mapping_of processes (with_row row holders) here row.id))
     tied_mapped =
         let range = range_by (key_of processes holders here row.id) refl key in
         let is_row : IsRow row = record { least_id = least_id; greatest_id = greatest_id; least_key = range.0; greatest_key = range.1 } in
@@ -273,7 +273,7 @@ module _ (threads : List (ℕ × ℕ)) (processes : List (Option ℕ)) (holders 
 
   module _ (after : List (Option Mapping)) (long : length after ≡ length mappings) where
     pub tied_without_coffer : (coffer : ℕ) → ((k : ℕ) → k % 257 ≡ coffer → get_or after k None ≡ None) → ((k : ℕ) → k % 257 ≢ coffer → get_or after k None ≡ get_or mappings k None)
-        → AreTied threads processes (without_coffer coffer holders) after
+        → TablesAgree threads processes (without_coffer coffer holders) after
     tied_without_coffer coffer gone stays =
         tied_filtered (λ h. not (eqb h.id coffer)) after
         (long ∙ tied.places)
@@ -300,7 +300,7 @@ module _ (threads : List (ℕ × ℕ)) (processes : List (Option ℕ)) (holders 
             ∙ sym (mapping_of_filter processes process id (λ h. not (eqb h.id coffer)) holders (other process id ne))
 
     pub tied_without_process : (gone_process : ℕ) → ((k : ℕ) → k / 257 ≡ gone_process → get_or after k None ≡ None) → ((k : ℕ) → k / 257 ≢ gone_process → get_or after k None ≡ get_or mappings k None)
-        → AreTied threads processes (without_process_in processes gone_process holders) after
+        → TablesAgree threads processes (without_process_in processes gone_process holders) after
     tied_without_process gone_process gone stays =
         tied_filtered (λ h. not (is_in processes h.thread gone_process)) after
         (long ∙ tied.places)

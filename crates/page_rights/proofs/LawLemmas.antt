@@ -6,8 +6,8 @@ use Rattle.std.proofs.lemmas.Bool.{cases_eq, eq-eqb, eqb-true, and_parts, and_fr
 use Rattle.std.proofs.lemmas.List.Elements.{All-nil, All-cons, All-contains, Contains-push, Contains-append_left, Contains-append_right}
 use Rattle.tr_types.specs.declared.action.FaultKind.TheVariants.{KeyDenied}
 use Rattle.tr_types.specs.declared.kernel_call.Holder.{Holder}
-use Rattle.tr_types.specs.Rights.{process_of, is_same, are_together, holds_beside, key_in, is_writable, load_fault_by, store_fault_by, uses_key, is_free_key, free_keys, first_of, or_key, may_read, may_write, closed_pkru, only_pkru}
-use Rattle.page_rights.specs.Tables.{View, IsRow, IsSound}
+use Rattle.kern_model.specs.Rights.{process_of, is_same, are_together, holds_beside, key_in, is_writable, load_fault_by, store_fault_by, uses_key, is_free_key, free_keys, first_of, or_key, may_read, may_write, closed_pkru, only_pkru}
+use Rattle.page_rights.specs.Tables.{View, IsRow, HasSoundMaps}
 use Rattle.page_rights.specs.Laws.{OpensItsCofferAlone, ClosedOpensNothing, HasOtherAt, NoKeyMeansFifteenOthers}
 use Rattle.page_rights.proofs.RegisterLemmas.{only_one_key, closed_to_all}
 use Rattle.page_rights.proofs.RowLemmas.{first_found}
@@ -101,7 +101,7 @@ store_key (Some key) true pkru may = by (may_write pkru key) refl
         let denied : Some KeyDenied ≡ None = sym (ap (λ (b : Bool). cond b None (Some KeyDenied)) e) ∙ may in
         absurd (cc)
 
-module _ (v : View) (thread : ℕ) (sound : IsSound v) where
+module _ (v : View) (thread : ℕ) (sound : HasSoundMaps v) where
   -- a key is one of 1 to 15
   range : (coffer key : ℕ) → key_in v.threads v.holders thread coffer ≡ Some key → (1 ≤ key) × (key ≤ 15)
   range coffer key is = by (beside v.threads thread coffer v.holders key is)

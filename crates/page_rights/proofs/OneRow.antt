@@ -6,7 +6,8 @@ use Rattle.std.proofs.lemmas.Bool.{eqb-true, and_parts, or_cases, both_ways}
 use Rattle.std.proofs.lemmas.List.{length-append}
 use Rattle.std.proofs.lemmas.List.Elements.{All-head, All-tail, filter-append}
 use Rattle.tr_types.specs.declared.kernel_call.Holder.{Holder}
-use Rattle.tr_types.specs.Rights.{has_bit, is_row_of, without_row, with_row}
+use Rattle.tr_types.specs.Permission.{has_bit}
+use Rattle.kern_model.specs.Rights.{is_row_of, without_row, with_row}
 use Rattle.page_rights.specs.Tables.{IsRow, HasOneRow}
 use Rattle.page_rights.specs.Laws.{row_gives, RowTellsAll}
 

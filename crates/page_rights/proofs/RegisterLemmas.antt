@@ -2,7 +2,7 @@
 use Rattle.std.proofs.Common.{◌≡◌, ℕ, ◌+◌, ◌*◌, ◌-◌, ◌<◌, ◌≤◌, ◌^◌, ◌&&◌, Bool, true, false, refl, ap, subst, ◌⊎◌, inl, inr, arith, eqb}
 use Rattle.std.proofs.lemmas.Bool.{cases_lt, agree_below, agree_below_at}
 use Rattle.std.proofs.lemmas.Nat.{pow_below}
-use Rattle.tr_types.specs.Rights.{may_read, may_write, closed_pkru, only_pkru}
+use Rattle.kern_model.specs.Rights.{may_read, may_write, closed_pkru, only_pkru}
 use Rattle.page_rights.specs.Laws.{OnlyOneKey, ClosedToAll}
 
 -- the bit of a key lies in the value of a thread that starts

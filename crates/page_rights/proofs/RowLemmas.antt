@@ -5,7 +5,7 @@ use Rattle.std.specs.List.{range_with_len}
 use Rattle.std.proofs.lemmas.Bool.{cases_lt, and_parts, not-true}
 use Rattle.std.proofs.lemmas.List.Elements.{All-nil, All-head, All-tail, All-cons, Contains-append_right, filter_agree, Contains-push, Contains-push_cases, Contains-append_left}
 use Rattle.tr_types.specs.declared.kernel_call.Holder.{Holder}
-use Rattle.tr_types.specs.Rights.{process_of, is_same, allows_writing, first_of, key_in, is_writable, is_free_key, key_for, or_key}
+use Rattle.kern_model.specs.Rights.{process_of, is_same, allows_writing, first_of, key_in, is_writable, is_free_key, key_for, or_key}
 use Rattle.page_rights.specs.Lookup.{process_at, is_in, holds_in, key_of, is_writable_in, uses_key_in, is_free_in, key_for_in, mapping_for, mapping_by, mapping_of, lesser, IsLeast}
 
 -- keys in turn, where this one isn't free

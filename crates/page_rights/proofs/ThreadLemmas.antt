@@ -4,7 +4,7 @@ use Rattle.std.specs.Prelude.{filter}
 use Rattle.std.proofs.lemmas.List.{map_push}
 use Rattle.std.proofs.lemmas.List.Elements.{filter_more}
 use Rattle.tr_types.specs.declared.kernel_call.Holder.{Holder}
-use Rattle.tr_types.specs.Rights.{stands_against, those_against}
+use Rattle.kern_model.specs.Rights.{stands_against, those_against}
 use Rattle.page_rights.specs.Lookup.{lesser, IsLeast}
 use Rattle.page_rights.proofs.RowLemmas.{least_more}
 

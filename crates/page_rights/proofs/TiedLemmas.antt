@@ -4,10 +4,10 @@ use Rattle.std.specs.Prelude.{IsSome, IfSome, is_some}
 use Rattle.std.proofs.lemmas.Bool.{cases_lt, eq-eqb, eqb-true, ne_eqb, and_left, both_ways}
 use Rattle.std.proofs.lemmas.List.Elements.{All-weaker, All-contains}
 use Rattle.tr_types.specs.declared.kernel_call.Holder.{Holder}
-use Rattle.tr_types.specs.Rights.{process_of, is_same, are_together}
+use Rattle.kern_model.specs.Rights.{process_of, is_same, are_together}
 use Rattle.page_rights.specs.declared.mapping.Mapping.{Mapping}
-use Rattle.page_rights.specs.Tables.{View, IsRow, IsSound}
-use Rattle.page_rights.specs.Lookup.{process_at, holds_in, key_of, is_writable_in, mapping_by, mapping_of, mapping_at, mapping_for, is_in, AreTied}
+use Rattle.page_rights.specs.Tables.{View, IsRow, HasSoundMaps}
+use Rattle.page_rights.specs.Lookup.{process_at, holds_in, key_of, is_writable_in, mapping_by, mapping_of, mapping_at, mapping_for, is_in, TablesAgree}
 use Rattle.page_rights.proofs.RowLemmas.{key_found, mapping_of_none, mapping_by_thread}
 
 -- two in one process are in some process
@@ -16,7 +16,7 @@ in_some (Some a) (Some b) e = (a, eq-eqb a a refl, eq-eqb b a (sym (eqb-true a b
 in_some (Some a) None e = absurd (both_ways false refl e)
 in_some None b e = absurd (both_ways false refl e)
 
-module _ (threads : List (ℕ × ℕ)) (processes : List (Option ℕ)) (holders : List Holder) (mappings : List (Option Mapping)) (tied : AreTied threads processes holders mappings) where
+module _ (threads : List (ℕ × ℕ)) (processes : List (Option ℕ)) (holders : List Holder) (mappings : List (Option Mapping)) (tied : TablesAgree threads processes holders mappings) where
   own_keys : (h g : Holder) → Contains holders h → Contains holders g → are_together threads h.thread g.thread ≡ true → (h.id ≡ g.id) ↔ (h.key ≡ g.key)
   own_keys h g has_h has_g together = by (in_some (process_of threads h.thread) (process_of threads g.thread) together)
     where
@@ -52,8 +52,8 @@ module _ (threads : List (ℕ × ℕ)) (processes : List (Option ℕ)) (holders 
 
   -- the same, of the view v
   module _ (owners : List ℕ) (v : View) (view : (record { threads = threads; holders = holders; owners = owners }) ≡ v) where
-    pub is_sound : IsSound v
-    is_sound = subst IsSound view (record { rows = tied.rows; keys = record { own = own_keys }; one_row = tied.one_row })
+    pub is_sound : HasSoundMaps v
+    is_sound = subst HasSoundMaps view (record { rows = tied.rows; keys = record { own = own_keys }; one_row = tied.one_row })
 
     pub is_started : (thread : ℕ) → IsSome (process_of v.threads thread) → IsSome (process_at processes thread)
     is_started thread started =

@@ -3,7 +3,7 @@ use Rattle.std.specs.Prelude.{ℕ, ◌≡◌, ◌≢◌, ◌+◌, ◌*◌, ◌<�
 use Rattle.std.specs.List.{range_with_len}
 use Rattle.tr_types.specs.declared.action.FaultKind.{FaultKind}
 use Rattle.tr_types.specs.declared.kernel_call.Holder.{Holder}
-use Rattle.tr_types.specs.Rights.{process_of, is_same, allows_writing, load_fault_by, store_fault_by, first_of, or_key, key_in, is_writable, IsLeastOf}
+use Rattle.kern_model.specs.Rights.{process_of, is_same, allows_writing, load_fault_by, store_fault_by, first_of, or_key, key_in, is_writable, IsLeastOf}
 use Rattle.page_rights.specs.declared.mapping.Mapping.{Mapping}
 use Rattle.page_rights.specs.Tables.{IsRow, HasOneRow}
 
@@ -78,7 +78,7 @@ abbrev pub IsLeast : List ℕ → Option ℕ → Type 0
 IsLeast threads least = MatchOption least (threads ≡ []) (IsLeastOf threads)
 
 -- What ties the parts of the tables together.
-pub record AreTied (threads : List (ℕ × ℕ)) (processes : List (Option ℕ)) (holders : List Holder) (mappings : List (Option Mapping)) : Type 0 where
+pub record TablesAgree (threads : List (ℕ × ℕ)) (processes : List (Option ℕ)) (holders : List Holder) (mappings : List (Option Mapping)) : Type 0 where
   pub numbers : length processes ≡ 256
   pub starts : (thread : ℕ) → process_at processes thread ≡ process_of threads thread
   pub small : (thread process : ℕ) → process_at processes thread ≡ Some process → process < 64

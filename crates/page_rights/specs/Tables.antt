@@ -1,8 +1,8 @@
 -- The tables as their callers see them, and what each change leaves of them.
 use Rattle.std.specs.Prelude.{ℕ, ◌≡◌, ◌<◌, ◌≤◌, ◌↔◌, ◌⊎◌, List, [], ◌∷◌, ◌++◌, length, fold, filter, slice_index, slice_set, Contains, All, true, not, Some, ◌==◌}
 use Rattle.tr_types.specs.declared.kernel_call.Holder.{Holder}
-use Rattle.tr_types.specs.KernelCalls.{without_coffer}
-use Rattle.tr_types.specs.Rights.{process_of, is_same, are_together, is_row_of, with_row, without_row}
+use Rattle.kern_model.specs.KernelCalls.{without_coffer}
+use Rattle.kern_model.specs.Rights.{process_of, is_same, are_together, is_row_of, with_row, without_row}
 
 pub record View : Type 0 where
   pub threads : List (ℕ × ℕ)  -- each thread with its process, in the order of starting
@@ -30,7 +30,7 @@ pub record IsRow (h : Holder) : Type 0 where
 abbrev pub HasOneRow : List Holder → ℕ → ℕ → Type 0
 HasOneRow holders thread id = length (filter (is_row_of thread id) holders) ≤ 1
 
-pub record IsSound (v : View) : Type 0 where
+pub record HasSoundMaps (v : View) : Type 0 where
   pub rows : All IsRow v.holders
   pub keys : HaveOwnKeys v.threads v.holders
   pub one_row : (thread id : ℕ) → HasOneRow v.holders thread id

@@ -1,6 +1,7 @@
 // The register of a thread that says which keys are open to it.
 ghost use Rattle.std.specs.Prelude.{◌≡◌, ◌≤◌};
-ghost use Rattle.tr_types.specs.Rights as rights;
+ghost use Rattle.tr_types.specs.Permission.{has_bit as spec_bit};
+ghost use Rattle.kern_model.specs.Rights as rights;
 
 /// Key 0 alone is open.
 const CLOSED: u32 = 0x5555_5554;
@@ -48,7 +49,7 @@ impl Pkru {
 
 fn has_bit(word: u32, index: u8) -> bool
     requires { index ≤ 31 }
-    ensures { result ≡ rights.has_bit word index }
+    ensures { result ≡ spec_bit word index }
 {
     (word >> index) % 2 == 1
 }

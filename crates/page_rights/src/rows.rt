@@ -1,7 +1,7 @@
 // What the list of holders says.
 ghost use Rattle.std.specs.Prelude.{◌≡◌, ◌≤◌, ◌==◌, not, Some, IsSome, OnOk, OnErr};
-ghost use Rattle.tr_types.specs.Rights as rights;
-ghost use Rattle.tr_types.specs.KernelCalls as calls;
+ghost use Rattle.kern_model.specs.Rights as rights;
+ghost use Rattle.kern_model.specs.KernelCalls as calls;
 ghost use Rattle.std.specs.Vec.{vec_len, vec_capacity};
 ghost use Rattle.page_rights.specs.Lookup as lookup;
 

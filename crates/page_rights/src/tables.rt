@@ -1,8 +1,8 @@
 // The tables of all processes.
 ghost use Rattle.std.specs.Prelude.{◌≡◌, ◌≢◌, ℕ, ◌<◌, ◌≤◌, ◌↔◌, [], length, filter, slice_index, All, IsTrue, true, None, Some, IsSome, IfSome, IfOk, OnOk, OnErr};
 ghost use Rattle.std.specs.Result.{IsErrOf, IsOk};
-ghost use Rattle.tr_types.specs.Rights as rights;
-ghost use Rattle.tr_types.specs.KernelCalls as calls;
+ghost use Rattle.kern_model.specs.Rights as rights;
+ghost use Rattle.kern_model.specs.KernelCalls as calls;
 ghost use Rattle.page_rights.specs.Lookup as lookup;
 ghost use Rattle.page_rights.specs.Tables as spec;
 
@@ -51,13 +51,13 @@ pub struct Tables {
 
 impl Model for Tables {
     ghost use Rattle.page_rights.specs.Tables.{View};
-    ghost use Rattle.page_rights.specs.Lookup.{AreTied};
+    ghost use Rattle.page_rights.specs.Lookup.{TablesAgree};
 
     ghost Value = { View };
 
     ghost view = { λ t. record { threads = t.threads.items; holders = t.holders.items; owners = t.owners.items } };
 
-    ghost invariant = { λ t. AreTied t.threads.items t.processes.items t.holders.items t.mappings.items };
+    ghost invariant = { λ t. TablesAgree t.threads.items t.processes.items t.holders.items t.mappings.items };
 }
 
 impl Tables {
@@ -178,7 +178,7 @@ impl Tables {
     /// Who holds a coffer, the last mapped last.
     pub fn holders(&self, alloc: Global, id: u16) -> Result<Vec<Holder>, AllocError>
         ensures rows { IfOk result (λ rows. rows.items ≡ spec.rows_of id self.now.holders) }
-        ensures sound { spec.IsSound self.now }
+        ensures sound { spec.HasSoundMaps self.now }
     {
         self.holders
             .iter()
@@ -190,7 +190,7 @@ impl Tables {
     /// A thread's own row of a coffer. It has at most one. Takes no memory.
     pub fn row(&self, thread: u16, id: u16) -> Option<Holder>
         ensures row { result ≡ calls.own_row thread id self.now.holders }
-        ensures sound { spec.IsSound self.now }
+        ensures sound { spec.HasSoundMaps self.now }
     {
         rows::own_row(&self.holders, thread, id)
     }
@@ -229,7 +229,7 @@ impl Tables {
     pub fn may_load(&self, thread: u16, pkru: Pkru, page: u32) -> Option<FaultKind>
         requires started { IsSome (rights.process_of self.now.threads thread) }
         ensures fault { result ≡ rights.load_fault self.now.threads self.now.holders thread pkru.0 (slice_index self.now.owners page) }
-        ensures sound { spec.IsSound self.now }
+        ensures sound { spec.HasSoundMaps self.now }
     {
         load_fault(self.mapping(thread, page), pkru)
     }
@@ -239,7 +239,7 @@ impl Tables {
     pub fn may_store(&self, thread: u16, pkru: Pkru, page: u32) -> Option<FaultKind>
         requires started { IsSome (rights.process_of self.now.threads thread) }
         ensures fault { result ≡ rights.store_fault self.now.threads self.now.holders thread pkru.0 (slice_index self.now.owners page) }
-        ensures sound { spec.IsSound self.now }
+        ensures sound { spec.HasSoundMaps self.now }
     {
         store_fault(self.mapping(thread, page), pkru)
     }
@@ -292,7 +292,7 @@ impl Tables {
         requires { IsSome (rights.process_of self.now.threads thread) }
         ensures mapping { result ≡ lookup.mapping_for self.now.threads self.now.holders thread (slice_index self.now.owners page) }
         ensures key { IfSome result (λ mapping. mapping.key ≤ 15) }
-        ensures sound { spec.IsSound self.now }
+        ensures sound { spec.HasSoundMaps self.now }
     {
         let id = mapping::owner_of(&self.owners, page);
         let process = process_of(&self.processes, thread);

@@ -1,5 +1,5 @@
 ghost use Rattle.std.specs.Prelude.{◌≡◌, ◌≤◌, ◌∷◌, [], length, All, IsSome, IfOk};
-ghost use Rattle.tr_types.specs.Rights as rights;
+ghost use Rattle.kern_model.specs.Rights as rights;
 
 use super::*;
 use std::alloc::{AllocError, Global};

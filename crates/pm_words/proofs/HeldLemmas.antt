@@ -1,44 +1,56 @@
 -- The marks that a pending word keeps, and what they show.
-use Rattle.std.proofs.Common.{◌≡◌, ◌≢◌, ℕ, zero, suc, ◌-◌, ◌<◌, ◌≤◌, Bool, true, false, cond, List, [], ◌∷◌, ◌++◌, map, length, length-drop, drop, slice_index_or, slice_set, nat_eq, refl, sym, ap, subst, ◌∙◌, inl, inr, ◌⊎◌, arith}
+use Rattle.std.proofs.Common.{◌≡◌, ◌≢◌, ℕ, zero, suc, ◌-◌, ◌/◌, ◌<◌, ◌≤◌, Bool, true, false, cond, List, [], ◌∷◌, ◌++◌, map, length, length-drop, drop, slice_index_or, slice_set, nat_eq, refl, sym, ap, subst, ◌∙◌, inl, inr, ◌⊎◌, arith}
 use Rattle.std.proofs.lemmas.Bool.{cases_eq, eq-eqb, ne_eqb}
 use Rattle.pm_words.specs.declared.pending.Mark.{Mark}
+use Rattle.pm_words.specs.declared.pending.Older.{Older}
 use Rattle.pm_words.specs.Marks.{mark_at, put_mark, less_marks}
-use Rattle.pm_words.specs.View.{look, lowered, marks_of}
+use Rattle.pm_words.specs.View.{Held, held_at, look, look_at, lowered, count_at, marks_of, marks_at}
 use Rattle.pm_words.proofs.MarkLemmas.{IsTrimmed, equal_marks, trimmed_put, trimmed_less, mark_put, mark_put_same, mark_put_other, mark_less}
 
-pub trimmed_marks : (ms : List Mark) → IsTrimmed (marks_of ms)
-trimmed_marks [] = refl
-trimmed_marks (m ∷ ms) = trimmed_put (marks_of ms) m.thread m.gone
+trimmed_of : (place : ℕ) (older : List Older) (ms : List Mark) → IsTrimmed (marks_of place older ms)
+trimmed_of place older [] = refl
+trimmed_of place older (m ∷ ms) = trimmed_put (marks_of place older ms) m.thread (count_at place m.gone older)
+
+mark_of : (place : ℕ) (older : List Older) (ms : List Mark) (t : ℕ) → mark_at (marks_of place older ms) t ≡ count_at place (look ms t) older
+mark_of place older [] t = refl
+mark_of place older (m ∷ ms) t = mark_put (marks_of place older ms) m.thread (count_at place m.gone older) t ∙ by (nat_eq t m.thread) (mark_of place older ms t)
+  where
+    by : (b : Bool) → mark_at (marks_of place older ms) t ≡ count_at place (look ms t) older
+        → cond b (count_at place m.gone older) (mark_at (marks_of place older ms) t) ≡ count_at place (cond b m.gone (look ms t)) older
+    by true rest = refl
+    by false rest = rest
+
+trimmed_marks : (entries : List (ℕ × Held)) (place : ℕ) → IsTrimmed (marks_at entries place)
+trimmed_marks entries place = trimmed_of place (held_at entries (place / 8)).older (held_at entries (place / 8)).marks
 
 -- the marks by the numbers of threads show what a look-up finds
-pub mark_look : (ms : List Mark) (t : ℕ) → mark_at (marks_of ms) t ≡ look ms t
-mark_look [] t = refl
-mark_look (m ∷ ms) t = mark_put (marks_of ms) m.thread m.gone t ∙ ap (λ (n : ℕ). cond (nat_eq t m.thread) m.gone n) (mark_look ms t)
+pub mark_look : (entries : List (ℕ × Held)) (place t : ℕ) → mark_at (marks_at entries place) t ≡ look_at entries place t
+mark_look entries place t = mark_of place (held_at entries (place / 8)).older (held_at entries (place / 8)).marks t
 
 -- marks that show the same
-pub same_marks : (new old : List Mark) → ((t : ℕ) → look new t ≡ look old t) → marks_of new ≡ marks_of old
-same_marks new old same = equal_marks _ _ (trimmed_marks new) (trimmed_marks old) (λ t. mark_look new t ∙ same t ∙ sym (mark_look old t))
+pub same_marks : (new old : List (ℕ × Held)) (k : ℕ) → ((t : ℕ) → look_at new k t ≡ look_at old k t) → marks_at new k ≡ marks_at old k
+same_marks new old k same = equal_marks _ _ (trimmed_marks new k) (trimmed_marks old k) (λ t. mark_look new k t ∙ same t ∙ sym (mark_look old k t))
 
 -- marks after a flush
-pub flushed_marks : (new old : List Mark) (thread gone : ℕ) → look new thread ≡ gone → ((t : ℕ) → t ≢ thread → look new t ≡ look old t)
-    → marks_of new ≡ put_mark (marks_of old) thread gone
-flushed_marks new old thread gone own others =
-    equal_marks _ _ (trimmed_marks new) (trimmed_put (marks_of old) thread gone) (λ t. mark_look new t ∙ at t (cases_eq t thread))
+pub flushed_marks : (new old : List (ℕ × Held)) (k thread gone : ℕ) → look_at new k thread ≡ gone → ((t : ℕ) → t ≢ thread → look_at new k t ≡ look_at old k t)
+    → marks_at new k ≡ put_mark (marks_at old k) thread gone
+flushed_marks new old k thread gone own others =
+    equal_marks _ _ (trimmed_marks new k) (trimmed_put (marks_at old k) thread gone) (λ t. mark_look new k t ∙ at t (cases_eq t thread))
   where
-    at : (t : ℕ) → (t ≡ thread) ⊎ (t ≡ thread → ⊥) → look new t ≡ mark_at (put_mark (marks_of old) thread gone) t
+    at : (t : ℕ) → (t ≡ thread) ⊎ (t ≡ thread → ⊥) → look_at new k t ≡ mark_at (put_mark (marks_at old k) thread gone) t
     at t (inl e) =
-        subst (λ (u : ℕ). look new u ≡ mark_at (put_mark (marks_of old) thread gone) u) (sym e) (own ∙ sym (mark_put_same (marks_of old) thread gone))
-    at t (inr ne) = others t ne ∙ sym (mark_look old t) ∙ sym (mark_put_other (marks_of old) thread gone t ne)
+        subst (λ (u : ℕ). look_at new k u ≡ mark_at (put_mark (marks_at old k) thread gone) u) (sym e) (own ∙ sym (mark_put_same (marks_at old k) thread gone))
+    at t (inr ne) = others t ne ∙ sym (mark_look old k t) ∙ sym (mark_put_other (marks_at old k) thread gone t ne)
 
 -- marks after a fence
-pub fenced_marks : (new old : List Mark) (thread : ℕ) → ((t : ℕ) → look new t ≡ look old t - look old thread)
-    → marks_of new ≡ less_marks (mark_at (marks_of old) thread) (marks_of old)
-fenced_marks new old thread lowered =
-    equal_marks _ _ (trimmed_marks new) (trimmed_less (mark_at (marks_of old) thread) (marks_of old)) (λ t.
-    let one = mark_look old t in
-    let two = mark_look old thread in
-    let three = mark_less (mark_at (marks_of old) thread) (marks_of old) t in
-    let four = mark_look new t in
+pub fenced_marks : (new old : List (ℕ × Held)) (k thread : ℕ) → ((t : ℕ) → look_at new k t ≡ look_at old k t - look_at old k thread)
+    → marks_at new k ≡ less_marks (mark_at (marks_at old k) thread) (marks_at old k)
+fenced_marks new old k thread lowered =
+    equal_marks _ _ (trimmed_marks new k) (trimmed_less (mark_at (marks_at old k) thread) (marks_at old k)) (λ t.
+    let one = mark_look old k t in
+    let two = mark_look old k thread in
+    let three = mark_less (mark_at (marks_at old k) thread) (marks_at old k) t in
+    let four = mark_look new k t in
     let five = lowered t in
     omega (arith, one, two, three, four, five))
 
@@ -81,7 +93,7 @@ look_pushed [] m t ne = ap (λ (b : Bool). cond b m.gone 0) (ne_eqb t m.thread n
 look_pushed (x ∷ ms) m t ne = ap (λ (n : ℕ). cond (nat_eq t x.thread) x.gone n) (look_pushed ms m t ne)
 
 -- a fence lowers all marks by the thread's own, and the values that went are the thread's
-module _ (older older' : List ℕ) (ms ms' : List Mark) (thread gone : ℕ) (own : gone ≡ look ms thread) (lower : ms' ≡ map (lowered gone) ms) where
+module _ (older older' : List Older) (ms ms' : List Mark) (thread gone : ℕ) (own : gone ≡ look ms thread) (lower : ms' ≡ map (lowered gone) ms) where
   pub fenced_look : (t : ℕ) → look ms' t ≡ look ms t - look ms thread
   fenced_look t = ap (λ (l : List Mark). look l t) lower ∙ look_lowered gone ms t ∙ ap (λ (n : ℕ). look ms t - n) own
 
@@ -89,7 +101,7 @@ module _ (older older' : List ℕ) (ms ms' : List Mark) (thread gone : ℕ) (own
   fenced_bound left bound t =
       let one = ap (λ (l : List Mark). look l t) lower in
       let two = look_lowered gone ms t in
-      let three = ap (λ (l : List ℕ). length l) left in
+      let three = ap (λ (l : List Older). length l) left in
       let four = length-drop gone older in
       let five = bound t in
       omega (arith, one, two, three, four, five)

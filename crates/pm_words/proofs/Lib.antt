@@ -1,8 +1,10 @@
 pub mod WordLemmas
 mod MarkLemmas
+mod LogLemmas
 mod HeldLemmas
 mod PlaceLemmas
 mod LineLemmas
+mod LastLemmas
 mod ViewLemmas
 mod DurableLemmas
 mod SettleLemmas

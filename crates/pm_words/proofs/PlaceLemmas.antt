@@ -1,100 +1,192 @@
--- Places that show the same, that were flushed and that were fenced, one step after the other.
-use Rattle.std.proofs.Common.{◌≡◌, ◌≢◌, ℕ, ◌+◌, ◌*◌, ◌/◌, ◌<◌, ◌≤◌, List, drop, length, refl, sym, ap, ◌∙◌, inl, inr, ◌⊎◌, arith, slice_index_or, Contains, Result, Ok, Err, OnErr}
-use Rattle.std.proofs.lemmas.Bool.{cases_lt}
-use Rattle.std.proofs.lemmas.List.{get_or_default}
-use Rattle.pm_words.specs.View.{Held, look_at, older_at, IsSameAt, IsFlushedAt, IsFencedAt}
+-- Lines, and the places of their words, that show the same, that were flushed and that were fenced.
+use Rattle.std.proofs.Common.{◌≡◌, ◌≢◌, ℕ, ◌+◌, ◌-◌, ◌/◌, ◌<◌, ◌≤◌, List, [], ◌∷◌, ◌++◌, drop, length, length-append, length-drop, sym, ap, subst, ◌∙◌, inl, inr, ◌⊎◌, arith, slice_index_or, Contains, Result, Ok, Err, OnOk, OnErr}
+use Rattle.std.proofs.lemmas.Bool.{cases_eq, cases_lt}
+use Rattle.std.proofs.lemmas.List.{get_or_default, drop_all}
+use Rattle.pm_words.specs.declared.pending.Older.{Older}
+use Rattle.pm_words.specs.View.{Held, no_held, held_at, look, look_at, values_at, count_at, older_at, IsSameAt, IsFlushedAt, IsFencedAt, IsKept, IsFlushed, IsFenced, AreOfLine, IsLine}
+use Rattle.pm_words.proofs.LogLemmas.{values_push, values_push_other, values_drop, count_drop, count_all, count_append, of_line_push, of_line_drop}
+
+pub on_ok : {T E : Type 0} {P Q : Type 0} (r : Result T E) → (P → Q) → OnOk r P → OnOk r Q
+on_ok (Ok v) f p = f p
+on_ok (Err e) f p = tt
+
+pub on_all : {T E : Type 0} {P : Type 0} (r : Result T E) → P → OnOk r P
+on_all (Ok v) p = p
+on_all (Err e) p = tt
+
+pub on_each : {T E : Type 0} {P Q R : Type 0} (r : Result T E) → (P → R) → (Q → R) → OnOk r P → OnErr r Q → R
+on_each (Ok v) f g p q = f p
+on_each (Err e) f g p q = g q
+
+pub on_err_map : {T E : Type 0} {P Q : Type 0} (r : Result T E) → (P → Q) → OnErr r P → OnErr r Q
+on_err_map (Ok v) f p = tt
+on_err_map (Err e) f p = f p
 
 pub on_err : {T E : Type 0} {P : Type 0} (r : Result T E) → P → OnErr r P
 on_err (Ok v) p = tt
 on_err (Err e) p = p
 
-pub same_at : (a : List (ℕ × Held)) (k : ℕ) → IsSameAt a a k
-same_at a k = record { older = refl; marks = λ t. refl }
-
-pub same_then : (a b c : List (ℕ × Held)) (k : ℕ) → IsSameAt a b k → IsSameAt b c k → IsSameAt a c k
-same_then a b c k one two = record { older = two.older ∙ one.older; marks = λ t. two.marks t ∙ one.marks t }
-
-pub same_flushed : (thread : ℕ) (a b c : List (ℕ × Held)) (k : ℕ) → IsSameAt a b k → IsFlushedAt thread b c k → IsFlushedAt thread a c k
-same_flushed thread a b c k one two = record {
-  older = two.older ∙ one.older;
-  own = two.own ∙ ap length one.older;
-  others = λ t ne. two.others t ne ∙ one.marks t;
+-- a place of a line that shows the same
+pub same_at : (old new : List (ℕ × Held)) (k : ℕ) → held_at new (k / 8) ≡ held_at old (k / 8) → IsSameAt old new k
+same_at old new k same = record {
+  older = ap (λ (h : Held). values_at k h.older) same;
+  marks = λ t. ap (λ (h : Held). count_at k (look h.marks t) h.older) same;
 }
 
-pub flushed_same : (thread : ℕ) (a b c : List (ℕ × Held)) (k : ℕ) → IsFlushedAt thread a b k → IsSameAt b c k → IsFlushedAt thread a c k
-flushed_same thread a b c k one two = record {
-  older = two.older ∙ one.older;
-  own = two.marks thread ∙ one.own;
-  others = λ t ne. two.marks t ∙ one.others t ne;
-}
-
-pub same_fenced : (thread : ℕ) (a b c : List (ℕ × Held)) (k : ℕ) → IsSameAt a b k → IsFencedAt thread b c k → IsFencedAt thread a c k
-same_fenced thread a b c k one two =
-    let own = one.marks thread in
+-- a place of a line that was flushed
+pub flushed_at : (thread : ℕ) (old new : List (ℕ × Held)) (k : ℕ) → IsFlushed thread (held_at old (k / 8)) (held_at new (k / 8)) → IsFlushedAt thread old new k
+flushed_at thread old new k f =
+    let was = held_at old (k / 8) in
+    let now = held_at new (k / 8) in
     record {
-      older = two.older ∙ ap (λ (n : ℕ). drop n (older_at b k)) own ∙ ap (λ (l : List ℕ). drop (look_at a k thread) l) one.older;
-      marks = λ t. let here = one.marks t in let there = two.marks t in omega (arith, own, here, there);
+      older = ap (λ (l : List Older). values_at k l) f.older;
+      own = ap (λ (n : ℕ). count_at k n now.older) f.own ∙ ap (λ (l : List Older). count_at k (length was.older) l) f.older ∙ count_all k was.older;
+      others = λ t ne. ap (λ (n : ℕ). count_at k n now.older) (f.others t ne) ∙ ap (λ (l : List Older). count_at k (look was.marks t) l) f.older;
     }
 
-pub fenced_same : (thread : ℕ) (a b c : List (ℕ × Held)) (k : ℕ) → IsFencedAt thread a b k → IsSameAt b c k → IsFencedAt thread a c k
-fenced_same thread a b c k one two = record {
-  older = two.older ∙ one.older;
-  marks = λ t. two.marks t ∙ one.marks t;
+-- a place of a line that was fenced
+pub fenced_at : (thread : ℕ) (old new : List (ℕ × Held)) (k : ℕ) → IsFenced thread (held_at old (k / 8)) (held_at new (k / 8)) → IsFencedAt thread old new k
+fenced_at thread old new k f =
+    let was = held_at old (k / 8) in
+    let now = held_at new (k / 8) in
+    record {
+      older = ap (λ (l : List Older). values_at k l) f.older ∙ values_drop k (look was.marks thread) was.older;
+      marks = λ t. ap (λ (n : ℕ). count_at k n now.older) (f.marks t)
+          ∙ ap (λ (l : List Older). count_at k (look was.marks t - look was.marks thread) l) f.older
+          ∙ count_drop k (look was.marks t) (look was.marks thread) was.older;
+    }
+
+-- the places of a line that keeps one more older value, and all others
+module _ (old new : List (ℕ × Held)) (place value : ℕ) (kept : IsKept place value (held_at old (place / 8)) (held_at new (place / 8)))
+    (others : (l : ℕ) → l ≢ place / 8 → held_at new l ≡ held_at old l)
+    (bound : (t : ℕ) → look (held_at old (place / 8)).marks t ≤ length (held_at old (place / 8)).older) where
+  abbrev entry : Older
+  entry = record { place = place; value = value }
+
+  pub kept_here : older_at new place ≡ older_at old place ++ value ∷ []
+  kept_here = ap (λ (l : List Older). values_at place l) kept.older ∙ values_push (held_at old (place / 8)).older entry
+
+  pub kept_others : (k : ℕ) → k ≢ place → older_at new k ≡ older_at old k
+  kept_others k ne = at (cases_eq (k / 8) (place / 8))
+    where
+      at : (k / 8 ≡ place / 8) ⊎ (k / 8 ≡ place / 8 → ⊥) → older_at new k ≡ older_at old k
+      at (inl e) =
+          ap (λ (l : ℕ). values_at k (held_at new l).older) e
+          ∙ ap (λ (l : List Older). values_at k l) kept.older
+          ∙ values_push_other k (held_at old (place / 8)).older entry ne
+          ∙ sym (ap (λ (l : ℕ). values_at k (held_at old l).older) e)
+      at (inr apart) = (same_at old new k (others (k / 8) apart)).older
+
+  pub kept_marks : (k t : ℕ) → look_at new k t ≡ look_at old k t
+  kept_marks k t = at (cases_eq (k / 8) (place / 8))
+    where
+      at : (k / 8 ≡ place / 8) ⊎ (k / 8 ≡ place / 8 → ⊥) → look_at new k t ≡ look_at old k t
+      at (inl e) =
+          ap (λ (l : ℕ). count_at k (look (held_at new l).marks t) (held_at new l).older) e
+          ∙ ap (λ (l : List Older). count_at k (look (held_at new (place / 8)).marks t) l) kept.older
+          ∙ ap (λ ms. count_at k (look ms t) ((held_at old (place / 8)).older ++ entry ∷ [])) kept.marks
+          ∙ count_append k (look (held_at old (place / 8)).marks t) (held_at old (place / 8)).older (entry ∷ []) (bound t)
+          ∙ sym (ap (λ (l : ℕ). count_at k (look (held_at old l).marks t) (held_at old l).older) e)
+      at (inr apart) = (same_at old new k (others (k / 8) apart)).marks t
+
+  -- and no line's marks change
+  pub kept_looks : (l t : ℕ) → look (held_at new l).marks t ≡ look (held_at old l).marks t
+  kept_looks l t = at (cases_eq l (place / 8))
+    where
+      at : (l ≡ place / 8) ⊎ (l ≡ place / 8 → ⊥) → look (held_at new l).marks t ≡ look (held_at old l).marks t
+      at (inl e) = subst (λ (j : ℕ). look (held_at new j).marks t ≡ look (held_at old j).marks t) (sym e) (ap (λ ms. look ms t) kept.marks)
+      at (inr apart) = ap (λ (h : Held). look h.marks t) (others l apart)
+
+-- lines that are all as they were
+pub held_same : (old new : List (ℕ × Held)) (line : ℕ) → held_at new line ≡ held_at old line → ((l : ℕ) → l ≢ line → held_at new l ≡ held_at old l) → (l : ℕ) → held_at new l ≡ held_at old l
+held_same old new line here others l = at (cases_eq l line)
+  where
+    at : (l ≡ line) ⊎ (l ≡ line → ⊥) → held_at new l ≡ held_at old l
+    at (inl e) = subst (λ (j : ℕ). held_at new j ≡ held_at old j) (sym e) here
+    at (inr ne) = others l ne
+
+-- a line with one older value more
+pub line_kept : (count line place value : ℕ) (old new : Held) → IsLine count line old → place / 8 ≡ line → IsKept place value old new → IsLine count line new
+line_kept count line place value old new is at kept =
+    let entry : Older = record { place = place; value = value } in
+    record {
+      inside = is.inside;
+      some = let len = ap (λ (l : List Older). length l) kept.older in let both = length-append old.older (entry ∷ []) in omega (arith, len, both);
+      places = subst (AreOfLine line) (sym kept.older) (of_line_push line old.older entry is.places at);
+    }
+
+-- a line that is pending after a fence
+pub line_fenced : (count line thread : ℕ) (old new : Held) → IsLine count line old → look old.marks thread < length old.older → IsFenced thread old new → IsLine count line new
+line_fenced count line thread old new is less f = record {
+  inside = is.inside;
+  some = let len = ap (λ (l : List Older). length l) f.older in let left = length-drop (look old.marks thread) old.older in omega (arith, len, left, less);
+  places = subst (AreOfLine line) (sym f.older) (of_line_drop line (look old.marks thread) old.older is.places);
 }
 
+-- a line of which a fence leaves nothing
+pub fenced_away : (thread : ℕ) (old : Held) → length old.older ≤ look old.marks thread → ((t : ℕ) → look old.marks t ≤ length old.older) → IsFenced thread old no_held
+fenced_away thread old all bound = record {
+  older = sym (drop_all (look old.marks thread) old.older all);
+  marks = λ t. let most = bound t in omega (arith, most, all);
+}
+
+pub same_fenced : (thread : ℕ) (a b c : Held) → b ≡ a → IsFenced thread b c → IsFenced thread a c
+same_fenced thread a b c same f = subst (λ (h : Held). IsFenced thread h c) same f
+
+pub fenced_same : (thread : ℕ) (a b c : Held) → IsFenced thread a b → c ≡ b → IsFenced thread a c
+fenced_same thread a b c f same = subst (λ (h : Held). IsFenced thread a h) (sym same) f
+
 -- a second fence finds no mark of the thread
-pub fenced_twice : (thread : ℕ) (a b c : List (ℕ × Held)) (k : ℕ) → IsFencedAt thread a b k → IsFencedAt thread b c k → IsFencedAt thread a c k
-fenced_twice thread a b c k one two =
+pub fenced_twice : (thread : ℕ) (a b c : Held) → IsFenced thread a b → IsFenced thread b c → IsFenced thread a c
+fenced_twice thread a b c one two =
     let own = one.marks thread in
-    let none : look_at b k thread ≡ 0 = omega (arith, own) in
+    let none : look b.marks thread ≡ 0 = omega (arith, own) in
     record {
-      older = two.older ∙ ap (λ (n : ℕ). drop n (older_at b k)) none ∙ one.older;
+      older = two.older ∙ ap (λ (n : ℕ). drop n b.older) none ∙ one.older;
       marks = λ t. let here = one.marks t in let there = two.marks t in omega (arith, none, here, there);
     }
 
--- a place where the thread has no mark is as after its fence
-pub unmarked_fenced : (thread : ℕ) (a b : List (ℕ × Held)) (k : ℕ) → IsSameAt a b k → look_at a k thread ≡ 0 → IsFencedAt thread a b k
-unmarked_fenced thread a b k same none = record {
-  older = same.older ∙ sym (ap (λ (n : ℕ). drop n (older_at a k)) none);
-  marks = λ t. let here = same.marks t in omega (arith, none, here);
+-- a line where the thread has no mark is as after its fence
+pub unmarked_fenced : (thread : ℕ) (a b : Held) → b ≡ a → look a.marks thread ≡ 0 → IsFenced thread a b
+unmarked_fenced thread a b same none = record {
+  older = ap (λ (h : Held). h.older) same ∙ sym (ap (λ (n : ℕ). drop n a.older) none);
+  marks = λ t. let here = ap (λ (h : Held). look h.marks t) same in omega (arith, none, here);
 }
 
--- a place once a fence has come to the first lines of a list: it was fenced, or is as it was and in none of these
+-- a line once a fence has come to the first lines of a list: it was fenced, or is as it was and none of these
 abbrev pub IsSoFar : ℕ → List ℕ → ℕ → List (ℕ × Held) → List (ℕ × Held) → ℕ → Type 0
-IsSoFar thread lines count old now k = IsFencedAt thread old now k ⊎ (IsSameAt old now k × ((j : ℕ) → j < count → slice_index_or lines j 0 ≢ k / 8))
+IsSoFar thread lines count old now l = IsFenced thread (held_at old l) (held_at now l) ⊎ ((held_at now l ≡ held_at old l) × ((j : ℕ) → j < count → slice_index_or lines j 0 ≢ l))
 
 -- one line more
-module _ (thread : ℕ) (lines : List ℕ) (count line first : ℕ) (old now new : List (ℕ × Held)) (is : line ≡ slice_index_or lines count 0) (at : first ≡ 8 * line)
-    (fenced : (k : ℕ) → first ≤ k → k < first + 8 → IsFencedAt thread now new k)
-    (before : (k : ℕ) → k < first → IsSameAt now new k)
-    (after : (k : ℕ) → first + 8 ≤ k → IsSameAt now new k) where
-  moved : (k : ℕ) → (k < first) ⊎ (first ≤ k) → (k < first + 8) ⊎ (first + 8 ≤ k) → (IsFencedAt thread now new k × (line ≡ k / 8)) ⊎ (IsSameAt now new k × (line ≢ k / 8))
-  moved k (inl lt) high = inr (before k lt, λ e. omega arith)
-  moved k (inr ge) (inl lt) = inl (fenced k ge lt, omega arith)
-  moved k (inr ge) (inr le) = inr (after k le, λ e. omega arith)
-
-  step : (k : ℕ) → IsSoFar thread lines count old now k → (IsFencedAt thread now new k × (line ≡ k / 8)) ⊎ (IsSameAt now new k × (line ≢ k / 8)) → IsSoFar thread lines (count + 1) old new k
-  step k (inl done) (inl (f, e)) = inl (fenced_twice thread old now new k done f)
-  step k (inl done) (inr (s, ne)) = inl (fenced_same thread old now new k done s)
-  step k (inr (same, none)) (inl (f, e)) = inl (same_fenced thread old now new k same f)
-  step k (inr (same, none)) (inr (s, ne)) = inr (same_then old now new k same s, λ j lt. at_line j lt (cases_lt j count))
+module _ (thread : ℕ) (lines : List ℕ) (count line : ℕ) (old now new : List (ℕ × Held)) (is : line ≡ slice_index_or lines count 0)
+    (fenced : IsFenced thread (held_at now line) (held_at new line))
+    (others : (l : ℕ) → l ≢ line → held_at new l ≡ held_at now l) where
+  step : (l : ℕ) → IsSoFar thread lines count old now l → (l ≡ line) ⊎ (l ≡ line → ⊥) → IsSoFar thread lines (count + 1) old new l
+  step l so (inl e) = subst (λ (j : ℕ). IsSoFar thread lines (count + 1) old new j) (sym e) (inl (here (subst (λ (j : ℕ). IsSoFar thread lines count old now j) e so)))
     where
-      at_line : (j : ℕ) → j < count + 1 → (j < count) ⊎ (count ≤ j) → slice_index_or lines j 0 ≢ k / 8
+      here : IsSoFar thread lines count old now line → IsFenced thread (held_at old line) (held_at new line)
+      here (inl done) = fenced_twice thread (held_at old line) (held_at now line) (held_at new line) done fenced
+      here (inr (same, none)) = same_fenced thread (held_at old line) (held_at now line) (held_at new line) same fenced
+  step l (inl done) (inr ne) = inl (fenced_same thread (held_at old l) (held_at now l) (held_at new l) done (others l ne))
+  step l (inr (same, none)) (inr ne) = inr (others l ne ∙ same, λ j lt. at_line j lt (cases_lt j count))
+    where
+      at_line : (j : ℕ) → j < count + 1 → (j < count) ⊎ (count ≤ j) → slice_index_or lines j 0 ≢ l
       at_line j lt (inl less) = none j less
-      at_line j lt (inr le) = λ e. let here : j ≡ count = omega arith in ne (is ∙ ap (λ (i : ℕ). slice_index_or lines i 0) (sym here) ∙ e)
+      at_line j lt (inr le) = λ e. let at : j ≡ count = omega arith in ne (sym (is ∙ ap (λ (i : ℕ). slice_index_or lines i 0) (sym at) ∙ e))
 
-  pub so_far_more : (k : ℕ) → IsSoFar thread lines count old now k → IsSoFar thread lines (count + 1) old new k
-  so_far_more k so = step k so (moved k (cases_lt k first) (cases_lt k (first + 8)))
+  pub so_far_more : (l : ℕ) → IsSoFar thread lines count old now l → IsSoFar thread lines (count + 1) old new l
+  so_far_more l so = step l so (cases_eq l line)
 
 -- all lines of a list that has each line where the thread has a mark
 pub so_far_all : (thread : ℕ) (lines : List ℕ) (count : ℕ) (old now : List (ℕ × Held)) → length lines ≤ count
-    → ((k : ℕ) → 0 < look_at old k thread → Contains lines (k / 8)) → (k : ℕ) → IsSoFar thread lines count old now k → IsFencedAt thread old now k
-so_far_all thread lines count old now all noted k (inl done) = done
-so_far_all thread lines count old now all noted k (inr (same, none)) = unmarked_fenced thread old now k same (zero_or (cases_lt 0 (look_at old k thread)))
+    → ((l : ℕ) → 0 < look (held_at old l).marks thread → Contains lines l) → (l : ℕ) → IsSoFar thread lines count old now l → IsFenced thread (held_at old l) (held_at now l)
+so_far_all thread lines count old now all noted l (inl done) = done
+so_far_all thread lines count old now all noted l (inr (same, none)) =
+    unmarked_fenced thread (held_at old l) (held_at now l) same (zero_or (cases_lt 0 (look (held_at old l).marks thread)))
   where
-    zero_or : (0 < look_at old k thread) ⊎ (look_at old k thread ≤ 0) → look_at old k thread ≡ 0
-    zero_or (inl some) = found (noted k some)
+    zero_or : (0 < look (held_at old l).marks thread) ⊎ (look (held_at old l).marks thread ≤ 0) → look (held_at old l).marks thread ≡ 0
+    zero_or (inl some) = found (noted l some)
       where
-        found : Contains lines (k / 8) → look_at old k thread ≡ 0
-        found (j, lt, e) = absurd (none j (omega arith) (get_or_default lines j 0 (k / 8) lt ∙ e))
+        found : Contains lines l → look (held_at old l).marks thread ≡ 0
+        found (j, lt, e) = absurd (none j (omega arith) (get_or_default lines j 0 l lt ∙ e))
     zero_or (inr le) = omega arith

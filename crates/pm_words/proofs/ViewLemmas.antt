@@ -1,6 +1,6 @@
 -- The words that present values and entries of older values and marks stand for.
-use Rattle.std.proofs.Common.{◌≡◌, ◌≢◌, ℕ, ◌+◌, ◌*◌, ◌^◌, ◌/◌, ◌<◌, ◌≤◌, ◌==◌, Bool, if◌then◌else◌, drop, refl, List, [], ◌∷◌, ◌++◌, length, slice_index_or, slice_set, sym, ap, subst, ◌∙◌, inl, inr, ◌⊎◌, arith, get_or-set_same, get_or-set_other}
-use Rattle.std.proofs.lemmas.Bool.{cases_eq, cases_lt, eq-eqb, ne_eqb}
+use Rattle.std.proofs.Common.{◌≡◌, ◌≢◌, ℕ, ◌+◌, ◌*◌, ◌/◌, ◌<◌, ◌==◌, Bool, if◌then◌else◌, drop, refl, List, [], ◌∷◌, ◌++◌, length, slice_index_or, slice_set, sym, ap, subst, ◌∙◌, inl, inr, ◌⊎◌, arith, get_or-set_same, get_or-set_other}
+use Rattle.std.proofs.lemmas.Bool.{cases_eq, eq-eqb, ne_eqb}
 use Rattle.std.proofs.lemmas.List.{length-set, length-map, get_or-map, get_or_default, same_lists}
 use Rattle.std.proofs.lemmas.List.FromFn.{length-enumerate_from, get_or-enumerate_from}
 use Rattle.std.specs.List.{enumerate_from}
@@ -8,8 +8,8 @@ use Rattle.pm_words.specs.Word.{Word, settled, stored, flushed, fenced}
 use Rattle.pm_words.specs.Marks.{mark_at}
 use Rattle.pm_words.specs.declared.choice.Choice.{Choice}
 use Rattle.pm_words.specs.Crash.{picked, after_crash}
-use Rattle.pm_words.specs.Memory.{store_at, flush_at, fence_by, each_word, present_values, all_durable, IsAddress, HasPages}
-use Rattle.pm_words.specs.View.{Held, marks_of, held_at, older_at, look_at, word_of, words_of, IsSameAt, IsFlushedAt, IsFencedAt, ArePending, IsSound}
+use Rattle.pm_words.specs.Memory.{store_at, flush_at, fence_by, each_word, present_values, all_durable, IsAddress}
+use Rattle.pm_words.specs.View.{Held, held_at, look, older_at, look_at, marks_at, word_of, words_of, IsSameAt, IsFlushedAt, IsFencedAt, ArePending, IsSound}
 use Rattle.pm_words.proofs.HeldLemmas.{mark_look, same_marks, flushed_marks, fenced_marks}
 
 pub length_words_of : (entries : List (ℕ × Held)) (present : List ℕ) → length (words_of entries present) ≡ length present
@@ -27,7 +27,7 @@ words_of_at entries present k d lt =
 -- a place that shows the same, with the same present value
 same_word : (old new : List (ℕ × Held)) (k value : ℕ) → IsSameAt old new k → word_of new k value ≡ word_of old k value
 same_word old new k value same =
-    let marks = same_marks (held_at new k).marks (held_at old k).marks same.marks in
+    let marks = same_marks new old k same.marks in
     λ i. record { older = same.older i; present = value; marks = marks i }
 
 -- places that show the same, and one present list, make equal words
@@ -67,15 +67,6 @@ place_inside entries present words address place view at is =
     let len : length (words_of entries present) ≡ length words = ap length view in
     omega (arith, len, length_words_of entries present, at.inside, is)
 
--- an address is small
-pub address_small : (entries : List (ℕ × Held)) (present : List ℕ) (words : List Word) (address : ℕ) → words_of entries present ≡ words → HasPages (length present) → IsAddress (length words) address → address < 2 ^ 32
-address_small entries present words address view pages at =
-    let len : length (words_of entries present) ≡ length words = ap length view in
-    let whole = pages.whole in
-    let most = pages.most in
-    let inside = at.inside in
-    omega (arith, len, length_words_of entries present, whole, most, inside)
-
 -- a write in place leaves what is kept
 pub sound_after_set : (marked : List (ℕ × List ℕ)) (entries : List (ℕ × Held)) (present : List ℕ) (place value : ℕ) → IsSound (length present) marked entries → IsSound (length (slice_set present place value)) marked entries
 sound_after_set marked entries present place value sound =
@@ -83,9 +74,9 @@ sound_after_set marked entries present place value sound =
     subst (λ (n : ℕ). IsSound n marked entries) (sym len) sound
 
 -- what is kept stays where no mark is new
-pub sound_stays : (count : ℕ) (marked : List (ℕ × List ℕ)) (old new : List (ℕ × Held)) → IsSound count marked old → ArePending count new → ((k t : ℕ) → look_at new k t ≡ look_at old k t) → IsSound count marked new
+pub sound_stays : (count : ℕ) (marked : List (ℕ × List ℕ)) (old new : List (ℕ × Held)) → IsSound count marked old → ArePending count new → ((l t : ℕ) → look (held_at new l).marks t ≡ look (held_at old l).marks t) → IsSound count marked new
 sound_stays count marked old new sound pending marks =
-    record { pages = sound.pages; pending = pending; noted = λ t k some. let same = marks k t in sound.noted t k (omega (arith, same, some)) }
+    record { pages = sound.pages; pending = pending; noted = λ t l some. let same = marks l t in sound.noted t l (omega (arith, same, some)) }
 
 -- and the number of words
 pub length_after_set : (old new : List (ℕ × Held)) (present : List ℕ) (words : List Word) (place value : ℕ) → words_of old present ≡ words → length (words_of new (slice_set present place value)) ≡ length words
@@ -100,8 +91,8 @@ module _ (old new : List (ℕ × Held)) (present : List ℕ) (i value : ℕ) (in
     (gained : older_at new i ≡ older_at old i ++ slice_index_or present i 0 ∷ [])
     (others : (k : ℕ) → k ≢ i → older_at new k ≡ older_at old k)
     (marks : (k t : ℕ) → look_at new k t ≡ look_at old k t) where
-  marks_same : (k : ℕ) → marks_of (held_at new k).marks ≡ marks_of (held_at old k).marks
-  marks_same k = same_marks (held_at new k).marks (held_at old k).marks (marks k)
+  marks_same : (k : ℕ) → marks_at new k ≡ marks_at old k
+  marks_same k = same_marks new old k (marks k)
 
   abbrev after : List ℕ
   after = slice_set present i value
@@ -190,36 +181,25 @@ words_by f old new present after len at =
     ∙ sym (each_word_at f (words_of old present) k d held))
 
 -- the words after a flush of a line
-pub flush_is : (old new : List (ℕ × Held)) (present : List ℕ) (words : List Word) (thread address first : ℕ) → words_of old present ≡ words → first ≡ 8 * (address / 64)
-    → ((k : ℕ) → first ≤ k → k < first + 8 → IsFlushedAt thread old new k)
-    → ((k : ℕ) → k < first → IsSameAt old new k)
-    → ((k : ℕ) → first + 8 ≤ k → IsSameAt old new k)
+pub flush_is : (old new : List (ℕ × Held)) (present : List ℕ) (words : List Word) (thread address : ℕ) → words_of old present ≡ words
+    → ((k : ℕ) → k / 8 ≡ address / 64 → IsFlushedAt thread old new k)
+    → ((k : ℕ) → k / 8 ≢ address / 64 → IsSameAt old new k)
     → words_of new present ≡ flush_at thread address words
-flush_is old new present words thread address first view is in_line before behind =
+flush_is old new present words thread address view in_line apart =
     words_by line old new present present refl (λ k lt. at k (slice_index_or present k 0) (cases_eq (k / 8) (address / 64)))
     ∙ ap (λ (ws : List Word). flush_at thread address ws) view
   where
     line : ℕ → Word → Word
     line place w = if place / 8 == address / 64 then flushed thread w else w
 
-    apart : (k : ℕ) → (k / 8 ≡ address / 64 → ⊥) → (k < first) ⊎ (first ≤ k) → IsSameAt old new k
-    apart k ne (inl lt) = before k lt
-    apart k ne (inr ge) = behind k (later (cases_lt k (first + 8)))
-      where
-        later : (k < first + 8) ⊎ (first + 8 ≤ k) → first + 8 ≤ k
-        later (inl lt) = absurd (ne (omega arith))
-        later (inr le) = le
-
     at : (k value : ℕ) → (k / 8 ≡ address / 64) ⊎ (k / 8 ≡ address / 64 → ⊥) → word_of new k value ≡ line k (word_of old k value)
     at k value (inl e) =
-        let low : first ≤ k = omega arith in
-        let high : k < first + 8 = omega arith in
-        let f = in_line k low high in
-        let marks = flushed_marks (held_at new k).marks (held_at old k).marks thread (length (older_at old k)) f.own f.others in
+        let f = in_line k e in
+        let marks = flushed_marks new old k thread (length (older_at old k)) f.own f.others in
         let step : word_of new k value ≡ flushed thread (word_of old k value) = λ i. record { older = f.older i; present = value; marks = marks i } in
         step ∙ ap (λ (b : Bool). if b then flushed thread (word_of old k value) else word_of old k value) (sym (eq-eqb (k / 8) (address / 64) e))
     at k value (inr ne) =
-        same_word old new k value (apart k ne (cases_lt k first))
+        same_word old new k value (apart k ne)
         ∙ ap (λ (b : Bool). if b then flushed thread (word_of old k value) else word_of old k value) (sym (ne_eqb (k / 8) (address / 64) ne))
 
 -- the words after a fence
@@ -238,9 +218,9 @@ fence_is old new present words thread view all =
     at : (k value : ℕ) → word_of new k value ≡ fenced thread (word_of old k value)
     at k value =
         let f = all k in
-        let gone : look_at old k thread ≡ mark_at (marks_of (held_at old k).marks) thread = sym (mark_look (held_at old k).marks thread) in
+        let gone : look_at old k thread ≡ mark_at (marks_at old k) thread = sym (mark_look old k thread) in
         let older = f.older ∙ ap (λ (n : ℕ). drop n (older_at old k)) gone in
-        let marks = fenced_marks (held_at new k).marks (held_at old k).marks thread f.marks in
+        let marks = fenced_marks new old k thread f.marks in
         λ i. record { older = older i; present = value; marks = marks i }
 
 -- the words after a crash, where no entry is left

@@ -1,41 +1,36 @@
 //! What a crash leaves of the pending words.
 
-ghost use Rattle.std.specs.Prelude.{◌≡◌, ℕ, ◌+◌, ◌*◌, ◌<◌, ◌^◌, ◌≢◌, ◌++◌, ◌∷◌, [], length, slice_index_or};
-ghost use Rattle.pm_words.specs.View.{older_at, ArePending};
+ghost use Rattle.std.specs.Prelude.{◌≡◌, ℕ, ◌+◌, ◌*◌, ◌/◌, ◌<◌, ◌≤◌, ◌^◌, ◌≢◌, ◌++◌, [], length, slice_index_or};
+ghost use Rattle.pm_words.specs.View.{values_at, older_at, ArePending};
 ghost use Rattle.pm_words.specs.Crash.{picked};
 ghost use Rattle.pm_words.specs.Hash.{fnv64_of};
 ghost use Rattle.std.specs.Int.{w64, to_le_bytes};
 
 use crate::Choice;
 use crate::fnv::fnv64;
-use crate::pending::Pending;
+use crate::pending::{LINE_WORDS, Line, Older, count_of, value_at};
 use indexmap::IndexMap;
 
 const WORD_BYTES: usize = 8;
 
-// The value that a crash leaves in the word at an address, of those before the present one and the
-// present one.
-fn left_of(choice: Choice, addr: u64, older: &[u64], present: u64) -> u64
-    ensures { result ≡ picked choice addr older.now present }
+// The value that a crash leaves in the word at a place, of the line's older values and the present one.
+fn left_of(choice: Choice, place: usize, older: &[Older], present: u64) -> u64
+    requires { place < 2 ^ 60 }
+    ensures left { result ≡ picked choice (8 * place) (values_at place older.now) present }
 {
     match choice {
         Choice::All => present,
-        Choice::None => value_at(older, 0, present),
+        Choice::None => value_at(older, place, 0, present),
         Choice::Seed(seed) => {
-            let count = older.len() as u64 + 1;
-            value_at(older, (hash_of(seed, addr) % count) as usize, present)
+            let count = count_of(older, place) as u64 + 1;
+            let addr = (WORD_BYTES * place) as u64;
+            value_at(
+                older,
+                place,
+                (hash_of(seed, addr) % count) as usize,
+                present,
+            )
         }
-    }
-}
-
-// The value at an index, of those before the present one and then the present one.
-fn value_at(older: &[u64], index: usize, present: u64) -> u64
-    ensures { result ≡ slice_index_or (older.now ++ present ∷ []) index present }
-{
-    if index < older.len() {
-        older[index]
-    } else {
-        present
     }
 }
 
@@ -49,28 +44,30 @@ fn hash_of(seed: u64, addr: u64) -> u64
     fnv64(&bytes)
 }
 
-// Leaves in the word at a place the value that the choice names.
-fn settle_word(present: &mut [u64], choice: Choice, place: usize, word: &Pending)
-    requires inside { place < length present.old }
+// Leaves in each word of a line the value that the choice names.
+fn settle_line(present: &mut [u64], choice: Choice, line: usize, words: &Line)
+    requires inside { 8 * line + 8 ≤ length present.old }
     requires small { length present.old < 2 ^ 60 }
     ensures len { length present.new ≡ length present.old }
-    ensures here { slice_index_or present.new place 0 ≡ picked choice (8 * place) word.now.older (slice_index_or present.old place 0) }
-    ensures others { (k : ℕ) → k ≢ place → slice_index_or present.new k 0 ≡ slice_index_or present.old k 0 }
+    ensures here { (k : ℕ) → k / 8 ≡ line → slice_index_or present.new k 0 ≡ picked choice (8 * k) (values_at k words.now.older) (slice_index_or present.old k 0) }
+    ensures others { (k : ℕ) → k / 8 ≢ line → slice_index_or present.new k 0 ≡ slice_index_or present.old k 0 }
 {
-    let addr = (WORD_BYTES * place) as u64;
-    present[place] = left_of(choice, addr, word.older(), present[place]);
+    let first = LINE_WORDS * line;
+    for place in first..first + LINE_WORDS {
+        present[place] = left_of(choice, place, words.older(), present[place]);
+    }
 }
 
 /// Leaves in each pending word the value that the choice names, and no entry. Takes no memory, and
 /// time in proportion to the words that are pending.
-pub fn settle(present: &mut [u64], pending: &mut IndexMap<usize, Pending>, choice: Choice)
+pub fn settle(present: &mut [u64], pending: &mut IndexMap<usize, Line>, choice: Choice)
     requires small { length present.old < 2 ^ 60 }
     requires pending { ArePending (length present.old) pending.old.entries }
     ensures len { length present.new ≡ length present.old }
     ensures left { (k : ℕ) → slice_index_or present.new k 0 ≡ picked choice (8 * k) (older_at pending.old.entries k) (slice_index_or present.old k 0) }
     ensures none { pending.new.entries ≡ [] }
 {
-    while let Some((place, word)) = pending.pop() {
-        settle_word(present, choice, place, &word);
+    while let Some((line, words)) = pending.pop() {
+        settle_line(present, choice, line, &words);
     }
 }

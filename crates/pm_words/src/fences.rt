@@ -1,61 +1,56 @@
 //! What a fence leaves of the pending words.
 
-ghost use Rattle.std.specs.Prelude.{◌≡◌, ◌≢◌, ℕ, ◌+◌, ◌*◌, ◌/◌, ◌<◌, ◌≤◌, ◌^◌, [], length, true, false, Contains};
-ghost use Rattle.pm_words.specs.View.{older_at, look_at, IsSameAt, IsFencedAt, IsPendingAt, ArePending};
+ghost use Rattle.std.specs.Prelude.{◌≡◌, ◌≢◌, ℕ, ◌+◌, ◌*◌, ◌<◌, ◌≤◌, length, true, false, nat_eq, IfSome, Contains};
+ghost use Rattle.indexmap.specs.IndexMap.{get};
+ghost use Rattle.pm_words.specs.View.{held_at, no_held, look, IsFenced, ArePending};
 
 use crate::marked::Lines;
-use crate::pending::Pending;
+use crate::pending::Line;
 use indexmap::IndexMap;
 
-// Forgets the older values of the word at `index` that a thread's fence ends. Answers whether an
-// entry is left that has none.
-fn forget_word(pending: &mut IndexMap<usize, Pending>, thread: u16, index: usize) -> bool
-    ensures fenced { IsFencedAt thread pending.old.entries pending.new.entries index }
-    ensures others { (k : ℕ) → k ≢ index → IsSameAt pending.old.entries pending.new.entries k }
-    ensures older { result ≡ true → older_at pending.new.entries index ≡ [] }
-    ensures marks { result ≡ true → (t : ℕ) → look_at pending.new.entries index t ≡ 0 }
-    ensures rest { (count : ℕ) → ArePending count pending.old.entries → (k : ℕ) → k ≢ index → IsPendingAt count pending.new.entries k }
-    ensures pending { (count : ℕ) → ArePending count pending.old.entries → result ≡ false → ArePending count pending.new.entries }
+// Whether a thread's fence leaves no older value of a line.
+fn is_ended(pending: &IndexMap<usize, Line>, thread: u16, line: usize) -> bool
+    ensures ends { result ≡ true → IsFenced thread (held_at pending.now.entries line) no_held }
+    ensures lasts { result ≡ false → IfSome (get nat_eq pending.now line) (λ h. look h.marks thread < length h.older) }
 {
-    match pending.get_mut(&index) {
-        Some(word) => {
-            word.fence(thread);
-            word.is_durable()
-        }
+    match pending.get(&line) {
+        Some(words) => words.ends_by(thread),
         None => false,
     }
 }
 
-// The word at `index` after a thread's fence. A durable word has no entry.
-fn fence_word(pending: &mut IndexMap<usize, Pending>, thread: u16, index: usize)
-    ensures fenced { IsFencedAt thread pending.old.entries pending.new.entries index }
-    ensures others { (k : ℕ) → k ≢ index → IsSameAt pending.old.entries pending.new.entries k }
+// Forgets the older values of a line that a thread's fence ends, where some are left.
+fn forget_line(pending: &mut IndexMap<usize, Line>, thread: u16, line: usize)
+    requires { IfSome (get nat_eq pending.old line) (λ h. look h.marks thread < length h.older) }
+    ensures fenced { IsFenced thread (held_at pending.old.entries line) (held_at pending.new.entries line) }
+    ensures others { (l : ℕ) → l ≢ line → held_at pending.new.entries l ≡ held_at pending.old.entries l }
     ensures pending { (count : ℕ) → ArePending count pending.old.entries → ArePending count pending.new.entries }
 {
-    if forget_word(pending, thread, index) {
-        pending.swap_remove(&index);
+    match pending.get_mut(&line) {
+        Some(words) => words.fence(thread),
+        None => {}
     }
 }
 
-// The 8 words of a line after a thread's fence.
-fn fence_line(pending: &mut IndexMap<usize, Pending>, thread: u16, first: usize)
-    requires { first < 2 ^ 48 }
-    ensures fenced { (k : ℕ) → first ≤ k → k < first + 8 → IsFencedAt thread pending.old.entries pending.new.entries k }
-    ensures before { (k : ℕ) → k < first → IsSameAt pending.old.entries pending.new.entries k }
-    ensures after { (k : ℕ) → first + 8 ≤ k → IsSameAt pending.old.entries pending.new.entries k }
+// A line after a thread's fence. A durable line has no entry.
+fn fence_line(pending: &mut IndexMap<usize, Line>, thread: u16, line: usize)
+    ensures fenced { IsFenced thread (held_at pending.old.entries line) (held_at pending.new.entries line) }
+    ensures others { (l : ℕ) → l ≢ line → held_at pending.new.entries l ≡ held_at pending.old.entries l }
     ensures pending { (count : ℕ) → ArePending count pending.old.entries → ArePending count pending.new.entries }
 {
-    for index in first..first + 8 {
-        fence_word(pending, thread, index);
+    if is_ended(pending, thread, line) {
+        pending.swap_remove(&line);
+    } else {
+        forget_line(pending, thread, line);
     }
 }
 
 /// The pending words after a thread's fence, which comes to its lines alone.
-pub fn fence_lines(pending: &mut IndexMap<usize, Pending>, thread: u16, lines: &Lines)
-    ensures fenced { ((k : ℕ) → 0 < look_at pending.old.entries k thread → Contains lines.now (k / 8)) → (k : ℕ) → IsFencedAt thread pending.old.entries pending.new.entries k }
+pub fn fence_lines(pending: &mut IndexMap<usize, Line>, thread: u16, lines: &Lines)
+    ensures fenced { ((l : ℕ) → 0 < look (held_at pending.old.entries l).marks thread → Contains lines.now l) → (l : ℕ) → IsFenced thread (held_at pending.old.entries l) (held_at pending.new.entries l) }
     ensures pending { (count : ℕ) → ArePending count pending.old.entries → ArePending count pending.new.entries }
 {
     for i in 0..lines.len() {
-        fence_line(pending, thread, 8 * lines.line(i) as usize);
+        fence_line(pending, thread, lines.line(i));
     }
 }

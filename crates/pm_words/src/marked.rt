@@ -3,14 +3,15 @@
 ghost use Rattle.std.specs.Prelude.{◌≡◌, ◌≢◌, ℕ, ◌<◌, [], length, Contains, IfOk, OnOk, OnErr, slice_index_or};
 ghost use Rattle.pm_words.specs.View.{lines_at};
 
-use indexmap::{IndexMap, IndexSet};
+use indexmap::IndexMap;
 use std::alloc::{AllocError, Global};
 use std::marker::Model;
 
-/// The lines that one thread has marked, each once. A line is named by its place among all lines.
+/// The lines that one thread has marked. A line is named by its place among all lines. It is there twice
+/// only where another thread's fence has taken the first mark away.
 #[derive(Drop)]
 pub struct Lines {
-    lines: IndexSet<u32>,
+    lines: Vec<usize>,
 }
 
 impl Model for Lines {
@@ -18,7 +19,7 @@ impl Model for Lines {
 
     ghost Value = { List ℕ };
 
-    ghost view = { λ m. m.lines.keys };
+    ghost view = { λ m. m.lines.items };
 }
 
 impl Lines {
@@ -27,17 +28,17 @@ impl Lines {
         ensures none { result ≡ [] }
     {
         Lines {
-            lines: IndexSet::new(alloc),
+            lines: Vec::new(alloc),
         }
     }
 
-    /// Adds a line, where it isn't there. An error leaves the lines as they were.
-    pub fn add(&mut self, line: u32) -> Result<(), AllocError>
+    /// Adds a line. An error leaves the lines as they were.
+    pub fn add(&mut self, line: usize) -> Result<(), AllocError>
         ensures ok { OnOk result (Contains self.new line) }
         ensures err { OnErr result (self.new ≡ self.old) }
         ensures others { (l : ℕ) → Contains self.old l → Contains self.new l }
     {
-        self.lines.insert(line)?;
+        self.lines.push(line)?;
         Ok(())
     }
 
@@ -49,11 +50,11 @@ impl Lines {
     }
 
     /// The line at an index.
-    pub fn line(&self, index: usize) -> u32
+    pub fn line(&self, index: usize) -> usize
         requires { index < length self.now }
         ensures line { result ≡ slice_index_or self.now index 0 }
     {
-        *self.lines.get_index(index).unwrap()
+        self.lines[index]
     }
 }
 
@@ -63,7 +64,7 @@ pub fn note(
     marked: &mut IndexMap<u16, Lines>,
     alloc: Global,
     thread: u16,
-    line: u32,
+    line: usize,
 ) -> Result<(), AllocError>
     ensures ok { OnOk result (Contains (lines_at marked.new.entries thread) line) }
     ensures kept { (l : ℕ) → Contains (lines_at marked.old.entries thread) l → Contains (lines_at marked.new.entries thread) l }

@@ -7,8 +7,8 @@ ghost use Rattle.pm_words.specs.Crash.{after_crash};
 
 use super::crash::settle;
 use super::fences::fence_lines;
-use super::marked::{Lines, note};
-use super::pending::{Pending, has_pending, keep, mark_line, older_of, reserve_line};
+use super::marked::Lines;
+use super::pending::{Line, flush_line, keep, older_of};
 use super::{Choice, Image, NoMemory};
 use indexmap::IndexMap;
 use std::alloc::Global;
@@ -20,16 +20,16 @@ const PAGE_WORDS: usize = 512;
 
 const LINE_BYTES: u64 = 64;
 
-const LINE_WORDS: usize = 8;
-
 /// The words of a running machine, in 64 to 16,384 pages of 512 words.
 ///
-/// A durable word takes 8 bytes. A pending word, which a crash may set back, takes an entry more.
-/// Each thread's marked lines are kept by themselves, so that its fence comes to no other line.
+/// A durable word takes 8 bytes. A line of 8 words of which one is pending, so that a crash may set it
+/// back, takes an entry more. The entry has no allocation of its own while the line has at most 8 older
+/// values and one mark. Each thread's marked lines are kept by themselves, so that its fence comes to
+/// no other line.
 #[derive(Drop)]
 pub struct Words {
     present: Vec<u64>,
-    pending: IndexMap<usize, Pending>,
+    pending: IndexMap<usize, Line>,
     marked: IndexMap<u16, Lines>,
     alloc: Global,
 }
@@ -125,6 +125,7 @@ impl Words {
     /// Marks, for a thread, the present values of the 8 words of the line that a byte address is in.
     /// An error leaves the memory as it was. Where all these words are durable, this changes nothing,
     /// takes no memory and can't fail.
+    #[tactic(auto, using(crate::proofs::ViewLemmas::length_words_of))]
     pub fn flush(&mut self, thread: u16, addr: u64) -> Result<(), NoMemory>
         requires { IsAddress (length self.old) addr }
         ensures ok { OnOk result (self.new ≡ flush_at thread addr self.old) }
@@ -132,39 +133,17 @@ impl Words {
         ensures len { length self.new ≡ length self.old }
         ensures durable { IsLineDurable self.old addr → IsOk result × (self.new ≡ self.old) }
     {
-        if self.is_line_pending(addr) {
-            self.mark(thread, addr)
-        } else {
-            Ok(())
-        }
+        flush_line(
+            &mut self.pending,
+            &mut self.marked,
+            self.alloc,
+            thread,
+            line_index(addr),
+        )
     }
 
-    // Whether a word of the line that a byte address is in is pending.
-    fn is_line_pending(&self, addr: u64) -> bool
-        requires { IsAddress (length self.now) addr }
-        ensures idle { result ≡ false → (thread : ℕ) → flush_at thread addr self.now ≡ self.now }
-        ensures durable { IsLineDurable self.now addr → result ≡ false }
-    {
-        has_pending(&self.pending, line_start(addr))
-    }
-
-    // Marks the words of a line for a thread, and notes the line for the thread's next fence.
-    #[tactic(auto, using(crate::proofs::ViewLemmas::length_words_of))]
-    fn mark(&mut self, thread: u16, addr: u64) -> Result<(), NoMemory>
-        requires { IsAddress (length self.old) addr }
-        ensures ok { OnOk result (self.new ≡ flush_at thread addr self.old) }
-        ensures err { OnErr result (self.new ≡ self.old) }
-        ensures len { length self.new ≡ length self.old }
-    {
-        let first = line_start(addr);
-        reserve_line(&mut self.pending, first)?;
-        note(&mut self.marked, self.alloc, thread, line_index(addr))?;
-        mark_line(&mut self.pending, thread, first);
-        Ok(())
-    }
-
-    /// Makes the values that a thread has marked durable, in time in proportion to the lines that it
-    /// has flushed since its last fence. Takes no memory.
+    /// Makes the values that a thread has marked durable, in time in proportion to its flushes since its
+    /// last fence. Takes no memory.
     #[tactic(auto, using(crate::proofs::ViewLemmas::length_words_of))]
     pub fn fence(&mut self, thread: u16)
         ensures words { self.new ≡ fence_by thread self.old }
@@ -219,17 +198,9 @@ fn word_index(addr: u64) -> usize
     (addr / WORD_BYTES) as usize
 }
 
-// The place of the first word of the line that a byte address is in.
-fn line_start(addr: u64) -> usize
-    ensures place { result ≡ 8 * (addr / 64) }
-{
-    LINE_WORDS * (addr / LINE_BYTES) as usize
-}
-
 // The place of the line that a byte address is in.
-fn line_index(addr: u64) -> u32
-    requires { addr < 2 ^ 32 }
+fn line_index(addr: u64) -> usize
     ensures place { result ≡ addr / 64 }
 {
-    (addr / LINE_BYTES) as u32
+    (addr / LINE_BYTES) as usize
 }

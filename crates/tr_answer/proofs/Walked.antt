@@ -1,6 +1,6 @@
 -- A walk along a path that splits it into names.
 use Rattle.std.proofs.Common.{ℕ, List, [], ◌∷◌, ◌++◌}
-use Rattle.tr_types.specs.Tree.{parts_of}
+use Rattle.tr_types.specs.Paths.{parts_of}
 use Rattle.tr_answer.specs.Nodes.{names_kept}
 
 -- the parts of a path whose first part has been begun

@@ -1,7 +1,7 @@
 -- What the program's nodes stand for, and what commands do, by the names of their paths.
 use Rattle.std.specs.Prelude.{ℕ, List, [], ◌∷◌, ◌++◌, filter, not, ◌==◌, length, is_some, if◌then◌else◌}
-use Rattle.tr_types.specs.Tree as spec
-use Rattle.tr_types.specs.Tree.Node.{Directory, FileOf}
+use Rattle.zo_model.specs.Tree as spec
+use Rattle.zo_model.specs.Tree.Node.{Directory, FileOf}
 use Rattle.tr_types.specs.declared.command.Reply.{Reply}
 use Rattle.tr_types.specs.declared.command.Reply.TheVariants.{Made, Exists}
 use Rattle.tr_answer.specs.declared.tree.Node.{Node}

@@ -2,7 +2,8 @@
 ghost use Rattle.std.specs.Prelude.{◌≡◌, ◌+◌, [], ◌∷◌, ◌++◌, length, ◌&&◌, ◌==◌, nat_eq, IfOk, OnOk};
 ghost use Rattle.std.specs.List.{starts_with};
 ghost use Rattle.std.specs.Cmp.Lexicographic.{pointwise};
-ghost use Rattle.tr_types.specs.Tree as spec;
+ghost use Rattle.tr_types.specs.Paths as paths;
+ghost use Rattle.zo_model.specs.Tree as spec;
 ghost use Rattle.tr_answer.specs.Nodes.{names_kept};
 
 use std::alloc::{AllocError, Global};
@@ -20,7 +21,7 @@ fn push_name(names: &mut Names, alloc: Global, bytes: &[u8]) -> Result<(), Alloc
 
 /// The names of a path: what stands between its slashes.
 pub fn names_of(alloc: Global, path: &[u8]) -> Result<Names, AllocError>
-    ensures { IfOk result (λ names. names ≡ spec.names_of path.now) }
+    ensures { IfOk result (λ names. names ≡ paths.names_of path.now) }
 {
     let mut names = Names::new(alloc);
     let mut name = Vec::new(alloc);

@@ -1,7 +1,7 @@
 // The tree as a list of all that stands in it, and what commands are answered.
 ghost use Rattle.std.specs.Prelude.{◌≡◌, length, filter, IfOk, OnOk, OnErr};
 ghost use Rattle.std.specs.Option.{option_copied, option_map};
-ghost use Rattle.tr_types.specs.Tree as spec;
+ghost use Rattle.zo_model.specs.Tree as spec;
 ghost use Rattle.tr_answer.specs.Nodes.{node_of, create_reply as create_reply_to, with_file};
 
 use crate::names::{is_directly_under, names_of, same_names};
@@ -27,7 +27,7 @@ struct Member {
 }
 
 impl Model for Member {
-    ghost use Rattle.tr_types.specs.Tree as spec;
+    ghost use Rattle.zo_model.specs.Tree as spec;
     ghost use Rattle.tr_answer.specs.Nodes.{node_of};
 
     ghost Value = { spec.Member };
@@ -43,7 +43,7 @@ pub struct Tree {
 
 impl Model for Tree {
     ghost use Rattle.std.specs.Prelude.{List};
-    ghost use Rattle.tr_types.specs.Tree as spec;
+    ghost use Rattle.zo_model.specs.Tree as spec;
 
     ghost Value = { List spec.Member };
 

@@ -4,17 +4,18 @@ use Rattle.std.specs.Prelude.{nat_lt}
 use Rattle.std.proofs.lemmas.Bool.{eq-eqb}
 use Rattle.pm_words.specs.Word.{Word}
 use Rattle.zo_layout.specs.Layout.{page_at}
-use Rattle.tr_types.specs.Machine.{Bus, Answers, callers_of, coffer_of, acted}
-use Rattle.tr_types.specs.KernelCalls.{answer_of, words_after, holders_after, IsPathText, IsOneRight}
-use Rattle.tr_types.specs.KernelTables.{Coffer as CofferEntry}
+use Rattle.bus_model.specs.Machine.{Bus, Answers, IsAction, callers_of, coffer_of, acted}
+use Rattle.kern_model.specs.KernelCalls.{answer_of, words_after, holders_after, IsPathText, IsOneRight}
+use Rattle.kern_model.specs.KernelTables.{Coffer as CofferEntry}
 use Rattle.tr_types.specs.Paths.{is_path_text}
-use Rattle.tr_types.specs.RootCoffer.{IsRootAlone, IsGiven, MapAnswers, UnmapAnswers, root_held, root_mapped, found_at}
-use Rattle.tr_types.proofs.RootLemmas.{located_root, good_look, find_answer, find_words, find_held, map_answers, map_words, map_held, unmap_answers, unmap_words, unmap_held}
-use Rattle.tr_types.specs.Rights.{closed_pkru, only_pkru, key_for, those_against, with_row, without_row, is_row_of, holds_itself, IsLeastOf}
-use Rattle.tr_types.specs.Commands.{IsPath, IsCommand, consulted_path, right_needed}
-use Rattle.tr_types.specs.Marks.{mark_of, pkru_mark}
-use Rattle.tr_types.specs.Tree.{Member, names_of}
-use Rattle.tr_types.specs.World.{World, Phase, NotYet, Idle, Runs, Committed, MayAct, MayReply, SparesKernel, told, pool_of, consulted_after}
+use Rattle.tr_model.specs.RootCoffer.{IsRootAlone, IsGiven, MapAnswers, UnmapAnswers, root_held, root_mapped, found_at}
+use Rattle.tr_model.proofs.RootLemmas.{located_root, good_look, find_answer, find_words, find_held, map_answers, map_words, map_held, unmap_answers, unmap_words, unmap_held}
+use Rattle.kern_model.specs.Rights.{closed_pkru, only_pkru, key_for, those_against, with_row, without_row, is_row_of, holds_itself, IsLeastOf}
+use Rattle.zo_model.specs.Commands.{IsPath, IsCommand, consulted_path, right_needed}
+use Rattle.tr_model.specs.Marks.{mark_of, pkru_mark}
+use Rattle.zo_model.specs.Tree.{Member}
+use Rattle.tr_types.specs.Paths.{names_of}
+use Rattle.tr_model.specs.World.{World, Phase, NotYet, Idle, Runs, Committed, MayAct, MayReply, SparesKernel, told, pool_of, consulted_after}
 use Rattle.tr_types.specs.declared.action.Action.{Action}
 use Rattle.tr_types.specs.declared.action.Action.TheVariants.{Pkru, Kernel}
 use Rattle.tr_types.specs.declared.action.Answer.{Answer}
@@ -39,9 +40,9 @@ use Rattle.zo_ops.specs.Reach.{IsReachable}
 use Rattle.zo_ops.specs.Knows.{Ground, BeginKnows, CallKnows, StepsFrom, ActGives, ReplyGives}
 use Rattle.zo_ops.proofs.LoadSteps.{ground_denotes}
 use Rattle.zo_ops.proofs.Members.{contains_none}
-use Rattle.tr_dispatch.specs.declared.session.Next.TheVariants as next
+use Rattle.tr_dispatch.specs.declared.session.SessionStep.TheVariants as step
 use Rattle.tr_dispatch.specs.declared.session.Stage.TheVariants as stage
-use Rattle.tr_dispatch.specs.Sessions.{writes, right_of, row_of, open_pkru, IsPhaseOf, IsGrounded, WorksFor, KnowsAt, SessionGoes, NextFrom}
+use Rattle.tr_dispatch.specs.Sessions.{writes, right_of, row_of, open_pkru, IsPhaseOf, IsGrounded, WorksFor, KnowsAt, SessionGoes, LeadsTo}
 use Rattle.tr_dispatch.proofs.KernelLaws.{ground_kernel, kernel_stays}
 use Rattle.tr_dispatch.proofs.Permits.{permitted, leaves}
 use Rattle.tr_dispatch.proofs.Worlds.{knows_after, register_set, told_pkru, told_unmap, phase_of_after, control_stays, dir_stays, holders_stay, registers_stay, consulted_stays, is_built, maps_none, finds_none, spares}
@@ -132,7 +133,7 @@ coffer_is : (words : List Word) (path : List ℕ) → IsRootAlone words → coff
 coffer_is words path alone = ap (λ (c : CofferEntry). c.id) (located_root words path alone)
 
 -- The first look: the coffer of the path that the command consults.
-pub find_gives : (thread : ℕ) (command : Command) (answer : Answer) (path : List ℕ) → path ≡ consulted_path command → NextFrom thread command stage.Begin answer (next.Act Plain (Kernel (kcall.Find path None)) stage.Finding)
+pub find_gives : (thread : ℕ) (command : Command) (answer : Answer) (path : List ℕ) → path ≡ consulted_path command → LeadsTo thread command stage.Begin answer stage.Finding (step.Act (Kernel (kcall.Find path None)) Plain)
 find_gives thread command answer path is w (sits, (bare, grounded, phase)) = record {
   marked = refl;
   built = (path_text path is_path, tt);
@@ -159,6 +160,10 @@ find_gives thread command answer path is w (sits, (bare, grounded, phase)) = rec
         refl,
       );
     }
+
+-- it is one that a script can write
+pub find_built : (command : Command) (path : List ℕ) → IsCommand command → path ≡ consulted_path command → IsAction (Kernel (kcall.Find path None))
+find_built command path valid is = (path_text path (consults_path command path valid is), tt)
 
 -- The map of that coffer, with the right that the command needs.
 given : (command : Command) → IsGiven (right_of command)
@@ -237,7 +242,10 @@ module _ (thread : ℕ) (command : Command) (answer : Answer) (path : List ℕ) 
   map_answered = by_kernel (SessionGoes (KnowsAt thread command stage.Mapping) thread Plain (Kernel call) w) w.machine.bus thread call
       (λ r a. by_mapped Goes w.machine.bus thread nobody key_is mapped_goes r (subst (MapAnswers w.machine.bus thread false) (sym a) (map_answers w.machine.bus thread 0 alone path right false is_path is_given)) a)
 
-pub map_gives : (thread : ℕ) (command : Command) (answer : Answer) (path : List ℕ) (right : Right) → path ≡ consulted_path command → right ≡ right_of command → NextFrom thread command stage.Finding answer (next.Act Plain (Kernel (kcall.Map path right false)) stage.Mapping)
+pub map_built : (command : Command) (path : List ℕ) (right : Right) → IsCommand command → path ≡ consulted_path command → right ≡ right_of command → IsAction (Kernel (kcall.Map path right false))
+map_built command path right valid is right_is = (path_text path (consults_path command path valid is), one_right right (subst IsGiven (sym right_is) (given command)))
+
+pub map_gives : (thread : ℕ) (command : Command) (answer : Answer) (path : List ℕ) (right : Right) → path ≡ consulted_path command → right ≡ right_of command → LeadsTo thread command stage.Finding answer stage.Mapping (step.Act (Kernel (kcall.Map path right false)) Plain)
 map_gives thread command answer path right is right_is w k = record {
   marked = refl;
   built = (path_text path (consults_path command path k.0.valid is), one_right right (subst IsGiven (sym right_is) (given command)));
@@ -252,7 +260,7 @@ open_mark (Stat path) = refl
 
 -- a call that begins in the mapped coffer
 pub record Begins (command : Command) (m : Mapped) (call : CallRun) : Type 0 where
-  pub command_is : call.command.now ≡ command
+  pub command_is : call.command ≡ command
   pub control : call.coffer.control.at ≡ page_at m.control
   pub dir : call.coffer.dir.at ≡ page_at m.root
   pub knows : (first : Answer) (words : List Word) (tree : List Member) (phase : Phase) → BeginKnows call.coffer command words tree phase → CallKnows call first words tree phase
@@ -292,7 +300,7 @@ module _ (thread : ℕ) (command : Command) (answer : Answer) (m : Mapped) (call
   }
 
 pub open_gives : (thread : ℕ) (command : Command) (answer : Answer) (m : Mapped) (call : CallRun) (pkru : ℕ) → answer ≡ Kern (kern.Mapped m) → Begins command m call → pkru ≡ only_pkru m.key (writes command)
-    → NextFrom thread command stage.Mapping answer (next.Act Open (Pkru pkru) (stage.Working call))
+    → LeadsTo thread command stage.Mapping answer (stage.Working call) (step.Act (Pkru pkru) Open)
 open_gives thread command answer m call pkru answer_is begins pkru_is w k = record {
   marked = open_mark command ∙ sym (ap pkru_mark (opens thread command answer m call pkru answer_is begins pkru_is w k));
   built = tt;
@@ -301,8 +309,8 @@ open_gives thread command answer m call pkru answer_is begins pkru_is w k = reco
 }
 
 -- The call's own actions.
-module _ (thread : ℕ) (command : Command) (answer : Answer) (old new : CallRun) (mark : Mark) (action : Action) (coffer : new.coffer ≡ old.coffer) (same : new.command.now ≡ old.command.now)
-    (of : IsStepOf old.coffer old.command.now (call_step.Act mark action)) (steps : StepsFrom old answer new (call_step.Act mark action)) (w : World) (k : KnowsAt thread command (stage.Working old) answer w) where
+module _ (thread : ℕ) (command : Command) (answer : Answer) (old new : CallRun) (mark : Mark) (action : Action) (coffer : new.coffer ≡ old.coffer) (same : new.command ≡ old.command)
+    (of : IsStepOf old.coffer old.command (call_step.Act mark action)) (steps : StepsFrom old answer new (call_step.Act mark action)) (w : World) (k : KnowsAt thread command (stage.Working old) answer w) where
   works_still : WorksFor command new w.machine.bus.words
   works_still = record {
     command_is = same ∙ k.1.1.command_is;
@@ -311,7 +319,7 @@ module _ (thread : ℕ) (command : Command) (answer : Answer) (old new : CallRun
     kernel = k.1.1.kernel;
   }
 
-  gives : ActGives (CallKnows new) new.command.now mark action w.machine.bus.words w.tree (w.phases thread)
+  gives : ActGives (CallKnows new) new.command mark action w.machine.bus.words w.tree (w.phases thread)
   gives = steps (subst IsCommand (sym k.1.1.command_is) k.0.valid) w.machine.bus.words w.tree (w.phases thread) k.1.2
 
   reached : IsReachable command w.machine.bus.words action
@@ -345,9 +353,9 @@ module _ (thread : ℕ) (command : Command) (answer : Answer) (old new : CallRun
         );
       }
 
-pub act_gives : (thread : ℕ) (command : Command) (answer : Answer) (old new : CallRun) (mark : Mark) (action : Action) → new.coffer ≡ old.coffer → new.command.now ≡ old.command.now
-    → IsStepOf old.coffer old.command.now (call_step.Act mark action) → StepsFrom old answer new (call_step.Act mark action)
-    → NextFrom thread command (stage.Working old) answer (next.Act mark action (stage.Working new))
+pub act_gives : (thread : ℕ) (command : Command) (answer : Answer) (old new : CallRun) (mark : Mark) (action : Action) → new.coffer ≡ old.coffer → new.command ≡ old.command
+    → IsStepOf old.coffer old.command (call_step.Act mark action) → StepsFrom old answer new (call_step.Act mark action)
+    → LeadsTo thread command (stage.Working old) answer (stage.Working new) (step.Act action mark)
 act_gives thread command answer old new mark action coffer same of steps w k = record {
   marked = of.1 ∙ (λ i. mark_of (k.1.1.dir i) (k.1.1.command_is i) action);
   built = is_built command w.machine.bus.words action (reached thread command answer old new mark action coffer same of steps w k);
@@ -378,7 +386,7 @@ module _ (thread : ℕ) (command : Command) (answer : Answer) (old new : CallRun
   }
 
 pub close_gives : (thread : ℕ) (command : Command) (answer : Answer) (old new : CallRun) (reply : Reply) (pkru : ℕ) → pkru ≡ closed_pkru → StepsFrom old answer new (call_step.Over reply)
-    → NextFrom thread command (stage.Working old) answer (next.Act Close (Pkru pkru) (stage.Closing reply))
+    → LeadsTo thread command (stage.Working old) answer (stage.Closing reply) (step.Act (Pkru pkru) Close)
 close_gives thread command answer old new reply pkru pkru_is steps w k = record {
   marked = sym (ap pkru_mark pkru_is);
   built = tt;
@@ -429,7 +437,7 @@ module _ (thread : ℕ) (command : Command) (answer : Answer) (reply : Reply) (w
       (λ r a. by_unmapped (λ r. r ≡ ended_by → SessionGoes (KnowsAt thread command (stage.Ending reply)) thread Plain (Kernel (kcall.Unmap 1)) w (Kern r)) w.machine.bus thread holds unmap_goes r
       (subst (UnmapAnswers w.machine.bus thread 1) (sym a) (unmap_answers w.machine.bus thread 0 1)) a)
 
-pub unmap_gives : (thread : ℕ) (command : Command) (answer : Answer) (reply : Reply) → NextFrom thread command (stage.Closing reply) answer (next.Act Plain (Kernel (kcall.Unmap 1)) (stage.Ending reply))
+pub unmap_gives : (thread : ℕ) (command : Command) (answer : Answer) (reply : Reply) → LeadsTo thread command (stage.Closing reply) answer (stage.Ending reply) (step.Act (Kernel (kcall.Unmap 1)) Plain)
 unmap_gives thread command answer reply w k = record {
   marked = refl;
   built = tt;

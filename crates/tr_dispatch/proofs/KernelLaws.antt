@@ -6,13 +6,14 @@ use Rattle.pm_words.specs.Word.{Word}
 use Rattle.pm_words.specs.Memory.{word_at, store_at, HasPages}
 use Rattle.pm_words.proofs.WordLemmas.{length_store_at, word_at_other}
 use Rattle.zo_layout.specs.Layout.{page_at, word_of, kernel_pages, owner_word, coffer_table, committed_word}
-use Rattle.tr_types.specs.KernelView.{pages_of, owner_of, free_pages}
-use Rattle.tr_types.specs.Journal.{IsHome}
-use Rattle.tr_types.specs.JournalLaws.{IsDurable}
-use Rattle.tr_types.specs.NewImage.{coffer_word}
-use Rattle.tr_types.specs.RootCoffer.{IsRootAlone, IsGivenTo}
-use Rattle.tr_types.specs.Tree.{Member}
-use Rattle.tr_types.specs.World.{SparesKernel}
+use Rattle.kern_model.specs.KernelView.{pages_of, owner_of, free_pages}
+use Rattle.kern_model.specs.Journal.{IsHome}
+use Rattle.kern_model.specs.JournalLaws.{IsDurable}
+use Rattle.kern_model.specs.NewImage.{coffer_word}
+use Rattle.tr_model.specs.RootCoffer.{IsRootAlone}
+use Rattle.kern_model.specs.Given.{IsGivenTo}
+use Rattle.zo_model.specs.Tree.{Member}
+use Rattle.tr_model.specs.World.{SparesKernel}
 use Rattle.tr_types.specs.declared.action.Action.{Action}
 use Rattle.tr_types.specs.declared.action.Action.TheVariants.{Load, Store, Cas, Flush, Fence, Pkru, Kernel}
 use Rattle.tr_types.specs.declared.action.Answer.{Answer}
@@ -22,7 +23,7 @@ use Rattle.tr_types.specs.declared.kernel_call.Kcall.{Kcall}
 use Rattle.tr_types.specs.declared.kernel_call.Kcall.TheVariants as kcall
 use Rattle.tr_types.specs.declared.kernel_call.KernAnswer.{KernAnswer}
 use Rattle.tr_types.specs.declared.kernel_call.KernAnswer.TheVariants as kern
-use Rattle.tr_types.proofs.RootLemmas.{OwnsKernel}
+use Rattle.tr_model.proofs.RootLemmas.{OwnsKernel}
 use Rattle.zo_ops.specs.declared.call.Coffer.{Coffer}
 use Rattle.zo_ops.specs.Knows.{Ground}
 use Rattle.zo_ops.specs.Permitted as by_words

@@ -2,11 +2,12 @@
 use Rattle.std.proofs.Common.{◌≡◌, ◌≢◌, ℕ, ◌/◌, ◌%◌, ◌<◌, ◌≤◌, ltb, List, [], ◌∷◌, length, map, Bool, true, false, ◌&&◌, ◌||◌, cond, Contains, Option, Some, None, refl, ap, sym, subst, ◌∙◌, ◌⊎◌, inl, inr, arith}
 use Rattle.std.proofs.lemmas.Bool.{cases_eq, ne_eqb, eq-eqb, lt-ltb}
 use Rattle.pm_words.specs.Memory.{IsAddress}
-use Rattle.tr_types.specs.Machine.{Bus, IsThread, pkru_of, is_word, load_refusal, store_refusal, Answers, callers_of, acted}
-use Rattle.tr_types.specs.Kernel.{kernel_owner}
-use Rattle.tr_types.specs.KernelCalls.{words_after}
-use Rattle.tr_types.specs.RootCoffer.{holds_to_write, EnlargeAnswers, EnlargeLeaves}
-use Rattle.tr_types.specs.Rights.{process_of, are_together, is_same, key_in, is_writable, load_fault, store_fault, load_fault_by, store_fault_by, allows_writing}
+use Rattle.bus_model.specs.Machine.{Bus, ThreadWasStarted, pkru_of, is_word, load_refusal, store_refusal, Answers, callers_of, acted}
+use Rattle.kern_model.specs.Kernel.{kernel_owner}
+use Rattle.kern_model.specs.KernelCalls.{words_after}
+use Rattle.tr_model.specs.RootCoffer.{holds_to_write, EnlargeAnswers}
+use Rattle.kern_model.specs.Given.{EnlargeLeaves}
+use Rattle.kern_model.specs.Rights.{process_of, are_together, is_same, key_in, is_writable, load_fault, store_fault, load_fault_by, store_fault_by, allows_writing}
 use Rattle.tr_types.specs.declared.action.Action.{Action}
 use Rattle.tr_types.specs.declared.action.Action.TheVariants.{Load, Store, Cas, Flush, Fence, Pkru, Kernel}
 use Rattle.tr_types.specs.declared.action.Answer.{Answer}
@@ -21,7 +22,8 @@ use Rattle.tr_types.specs.declared.kernel_call.KernAnswer.TheVariants as kern
 use Rattle.zo_ops.specs.Permitted as by_words
 use Rattle.zo_ops.specs.Reach.{IsCofferWord, IsReachable, MayStore}
 use Rattle.zo_ops.proofs.Members.{contains_cases, contains_none}
-use Rattle.tr_types.proofs.RootLemmas.{idle_owner, enlarge_answers, enlarge_leaves}
+use Rattle.kern_model.proofs.Idle.{idle_owner}
+use Rattle.tr_model.proofs.RootLemmas.{enlarge_answers, enlarge_leaves}
 use Rattle.tr_dispatch.specs.Sessions.{HasOpened, HasKernel, row_of, open_pkru, writes, right_of}
 use Rattle.tr_dispatch.proofs.KernelLaws.{owns_kernel}
 use Rattle.tr_dispatch.proofs.Register.{first_reads, first_writes}
@@ -45,7 +47,7 @@ together threads thread lives =
     let at = has_process threads thread lives in
     ap (λ (p : Option ℕ). is_same p p) at.1 ∙ eq-eqb at.0 at.0 refl
 
-module _ (bus : Bus) (thread : ℕ) (command : Command) (lives : IsThread bus thread) (opened : HasOpened bus thread command) (kernel : HasKernel bus.words) where
+module _ (bus : Bus) (thread : ℕ) (command : Command) (lives : ThreadWasStarted bus thread) (opened : HasOpened bus thread command) (kernel : HasKernel bus.words) where
   -- nothing is committed, so that the kernel reads the words as they stand
   coffers : (addr : ℕ) → IsCofferWord bus.words addr → kernel_owner bus.words (addr / 4096) ≡ 1
   coffers addr is = idle_owner bus.words (addr / 4096) kernel.alone.idle.present ∙ is.owned

@@ -2,9 +2,9 @@
 use Rattle.std.proofs.Common.{◌≡◌, ℕ, ◌+◌, ◌*◌, ◌-◌, ◌%◌, ◌<◌, ◌≤◌, ◌^◌, Bool, true, false, refl, ap, sym, subst, ◌∙◌, ◌⊎◌, inl, inr, arith, eqb}
 use Rattle.std.proofs.lemmas.Bool.{cases_lt, eqb-true, agree_below, agree_below_at}
 use Rattle.std.proofs.lemmas.Nat.{pow_below}
-use Rattle.tr_types.specs.Machine.{Bus, pkru_of}
-use Rattle.tr_types.specs.Rights.{may_read, may_write, closed_pkru, only_pkru}
-use Rattle.tr_types.specs.Windows.{IsKey, IsOpen}
+use Rattle.bus_model.specs.Machine.{Bus, pkru_of}
+use Rattle.kern_model.specs.Rights.{may_read, may_write, closed_pkru, only_pkru}
+use Rattle.tr_model.specs.Windows.{IsKey, IsOpen}
 
 -- the bit of a key lies in the value of a thread that starts
 pub access_bit_is_low : (key : ℕ) → key ≤ 15 → 2 ^ (2 * key) ≤ 1073741824

@@ -6,15 +6,15 @@ use Rattle.std.proofs.lemmas.List.{map-append}
 use Rattle.std.proofs.lemmas.List.Elements.{Contains-append_left}
 use Rattle.pm_words.specs.Word.{Word}
 use Rattle.zo_layout.specs.Layout.{bucket_head, bucket_of}
-use Rattle.tr_types.specs.Machine.{Bus, IsThread, IsStored, is_word, store_refusal, pkru_of, with_process, with_thread}
-use Rattle.tr_types.specs.Kernel.{kernel_owner}
-use Rattle.tr_types.specs.RootCoffer.{IsRootAlone, root_mapped}
-use Rattle.tr_types.specs.Rights.{closed_pkru, only_pkru, may_read, may_write, holds_beside, key_in, store_fault_by, store_fault}
-use Rattle.tr_types.specs.Tree.{Member}
-use Rattle.tr_types.specs.Denotes.{Denotes, dir_of}
-use Rattle.tr_types.specs.Commands.{IsCommand}
-use Rattle.tr_types.specs.World.{World, Phase, NotYet, Idle, Runs, Committed, MayReply}
-use Rattle.tr_types.specs.Windows.{IsKey, IsOpen, IsReading, IsWindowed}
+use Rattle.bus_model.specs.Machine.{Bus, ThreadWasStarted, IsStored, is_word, store_refusal, pkru_of, with_process, with_thread}
+use Rattle.kern_model.specs.Kernel.{kernel_owner}
+use Rattle.tr_model.specs.RootCoffer.{IsRootAlone, root_mapped}
+use Rattle.kern_model.specs.Rights.{closed_pkru, only_pkru, may_read, may_write, holds_beside, key_in, store_fault_by, store_fault}
+use Rattle.zo_model.specs.Tree.{Member}
+use Rattle.tr_model.specs.Denotes.{Denotes, dir_of}
+use Rattle.zo_model.specs.Commands.{IsCommand}
+use Rattle.tr_model.specs.World.{World, Phase, NotYet, Idle, Runs, Committed, MayReply}
+use Rattle.tr_model.specs.Windows.{IsKey, IsOpen, IsReading, IsWindowed}
 use Rattle.tr_types.specs.declared.action.Answer.{Answer}
 use Rattle.tr_types.specs.declared.action.Answer.TheVariants.{Word as WordIs, Done, Fault, Kern}
 use Rattle.tr_types.specs.declared.action.FaultKind.{FaultKind}
@@ -117,7 +117,7 @@ module _ (thread : ℕ) (command : Command) (answer : Answer) (bus : Bus) (tree 
   stage_denotes stage.Begin valid k = ground_denotes k.1.0 _ _ k.1.1
   stage_denotes stage.Finding valid k = ground_denotes k.1.0 _ _ k.1.1
   stage_denotes stage.Mapping valid k = ground_denotes k.1.0 _ _ k.1.1
-  stage_denotes (stage.Working call) valid k = call_denotes call.coffer call.command.now bus.words tree phase (subst IsCommand (sym k.1.command_is) valid) call.stage answer k.2
+  stage_denotes (stage.Working call) valid k = call_denotes call.coffer call.command bus.words tree phase (subst IsCommand (sym k.1.command_is) valid) call.stage answer k.2
   stage_denotes (stage.Closing reply) valid k = ground_denotes k.1.0 _ _ k.1.1
   stage_denotes (stage.Ending reply) valid k = ground_denotes k.1.0 _ _ k.1.1
   stage_denotes stage.Over valid k = absurd k
@@ -187,11 +187,11 @@ reads_only command (Committed reply) of reading = absurd reading
 
 -- The words denote the tree all along a session.
 pub knows_denotes : (s : Session) (a : Answer) (w : World) → SessionKnows s a w → Denotes w.machine.bus.words w.tree
-knows_denotes s a w k = stage_denotes s.thread s.command.now a w.machine.bus w.tree (w.phases s.thread) (w.consulted s.thread) s.stage k.0.valid k.1
+knows_denotes s a w k = stage_denotes s.thread s.command a w.machine.bus w.tree (w.phases s.thread) (w.consulted s.thread) s.stage k.0.valid k.1
 
 -- And the root coffer is the only one all along.
 pub knows_alone : (s : Session) (a : Answer) (w : World) → SessionKnows s a w → IsRootAlone w.machine.bus.words
-knows_alone s a w k = stage_alone s.thread s.command.now a w.machine.bus w.tree (w.phases s.thread) (w.consulted s.thread) s.stage k.1
+knows_alone s a w k = stage_alone s.thread s.command a w.machine.bus w.tree (w.phases s.thread) (w.consulted s.thread) s.stage k.1
 
 -- The windows are right where nobody holds a coffer and all registers are closed.
 pub bare_windowed : (w : World) → w.machine.bus.holders ≡ [] → ((u : ℕ) → pkru_of w.machine.bus u ≡ closed_pkru) → IsWindowed w
@@ -206,22 +206,22 @@ bare_windowed w none closed = record {
 -- And they are all along a session, where the other threads are idle and their registers closed.
 module _ (s : Session) (a : Answer) (w : World) (k : SessionKnows s a w) (others : (u : ℕ) → u ≢ s.thread → (w.phases u ≡ Idle) × (pkru_of w.machine.bus u ≡ closed_pkru)) where
   abbrev Window : Type 0
-  Window = InWindow s.thread s.command.now a w.machine.bus w.tree (w.phases s.thread) (w.consulted s.thread)
+  Window = InWindow s.thread s.command a w.machine.bus w.tree (w.phases s.thread) (w.consulted s.thread)
 
   active : w.phases s.thread ≢ Idle
-  active = not_idle s.thread s.command.now a w.machine.bus w.tree (w.phases s.thread) (w.consulted s.thread) s.stage k.1
+  active = not_idle s.thread s.command a w.machine.bus w.tree (w.phases s.thread) (w.consulted s.thread) s.stage k.1
 
   rows : (row : Holder) → Contains w.machine.bus.holders row → row.thread ≡ s.thread
-  rows row among = sym (ap (λ (h : Holder). h.thread) (own_rows s.thread s.command.now a w.machine.bus w.tree (w.phases s.thread) (w.consulted s.thread) s.stage k.1 row among))
+  rows row among = sym (ap (λ (h : Holder). h.thread) (own_rows s.thread s.command a w.machine.bus w.tree (w.phases s.thread) (w.consulted s.thread) s.stage k.1 row among))
 
   state : (pkru_of w.machine.bus s.thread ≡ closed_pkru) ⊎ Window
-  state = window s.thread s.command.now a w.machine.bus w.tree (w.phases s.thread) (w.consulted s.thread) s.stage k.1
+  state = window s.thread s.command a w.machine.bus w.tree (w.phases s.thread) (w.consulted s.thread) s.stage k.1
 
   -- a key that is open is the first, and the session's thread's
   first_key : (key : ℕ) → IsOpen w.machine.bus s.thread key → (pkru_of w.machine.bus s.thread ≡ closed_pkru) ⊎ Window → Window × (key ≡ 1)
   first_key key opened (inl closed) = absurd (shut w.machine.bus s.thread key closed opened)
   first_key key opened (inr in_window) =
-      (in_window, only_first (writes s.command.now) key opened.0 (ap (λ (p : ℕ). may_read p key) (sym in_window.register) ∙ opened.1))
+      (in_window, only_first (writes s.command) key opened.0 (ap (λ (p : ℕ). may_read p key) (sym in_window.register) ∙ opened.1))
 
   own_key : (u key : ℕ) → IsOpen w.machine.bus u key → (u ≡ s.thread) ⊎ (u ≢ s.thread) → (u ≡ s.thread) × Window × (key ≡ 1)
   own_key u key opened (inl same) = let is = first_key key (subst (λ (t : ℕ). IsOpen w.machine.bus t key) same opened) state in (same, is.0, is.1)
@@ -234,7 +234,7 @@ module _ (s : Session) (a : Answer) (w : World) (k : SessionKnows s a w) (others
   stores_none u key reading is (inr other) _ = shut_stores w.machine.bus u key (others u other).1 is
   stores_none u key reading is (inl same) (inl closed) = shut_stores w.machine.bus u key (ap (pkru_of w.machine.bus) same ∙ closed) is
   stores_none u key reading is (inl same) (inr in_window) =
-      let loads = reads_only s.command.now (w.phases s.thread) in_window.phase_of (subst (λ (t : ℕ). IsReading (w.phases t)) same reading) in
+      let loads = reads_only s.command (w.phases s.thread) in_window.phase_of (subst (λ (t : ℕ). IsReading (w.phases t)) same reading) in
       ap (λ (p : ℕ). may_write p key) (ap (pkru_of w.machine.bus) same ∙ in_window.register ∙ ap (only_pkru 1) loads) ∙ only_loads key is
 
   -- an idle thread is another one
@@ -252,8 +252,8 @@ module _ (s : Session) (a : Answer) (w : World) (k : SessionKnows s a w) (others
           1,
           ap w.consulted at.0 ∙ at.1.consults,
           record {
-            row = row_of s.thread s.command.now;
-            among = subst (λ (hs : List Holder). Contains hs (row_of s.thread s.command.now)) (sym at.1.holds) (contains_here (row_of s.thread s.command.now) []);
+            row = row_of s.thread s.command;
+            among = subst (λ (hs : List Holder). Contains hs (row_of s.thread s.command)) (sym at.1.holds) (contains_here (row_of s.thread s.command) []);
             thread_is = sym at.0;
             coffer_is = refl;
             key_is = sym at.2;
@@ -268,7 +268,7 @@ pub record SeesSame (thread : ℕ) (w after : World) : Type 0 where
   pub holders : after.machine.bus.holders ≡ w.machine.bus.holders
   pub register : pkru_of after.machine.bus thread ≡ pkru_of w.machine.bus thread
   pub registers : length after.machine.bus.pkrus ≡ length w.machine.bus.pkrus
-  pub lives : IsThread w.machine.bus thread → IsThread after.machine.bus thread
+  pub lives : ThreadWasStarted w.machine.bus thread → ThreadWasStarted after.machine.bus thread
   pub tree : after.tree ≡ w.tree
   pub phase : after.phases thread ≡ w.phases thread
   pub consulted : after.consulted thread ≡ w.consulted thread
@@ -298,10 +298,10 @@ knows_seen s a w after same k = (
     register = subst (λ (n : ℕ). s.thread < n) (sym same.registers) k.0.register;
     valid = k.0.valid;
   },
-  subst (λ t. SessionStageKnows s.thread s.command.now s.stage a after.machine.bus t (after.phases s.thread) (after.consulted s.thread)) (sym same.tree)
-      (subst (λ p. SessionStageKnows s.thread s.command.now s.stage a after.machine.bus w.tree p (after.consulted s.thread)) (sym same.phase)
-      (subst (λ c. SessionStageKnows s.thread s.command.now s.stage a after.machine.bus w.tree (w.phases s.thread) c) (sym same.consulted)
-      (stage_stays s.thread s.command.now a w.machine.bus after.machine.bus same.words same.holders same.register w.tree (w.phases s.thread) (w.consulted s.thread) s.stage k.1))),
+  subst (λ t. SessionStageKnows s.thread s.command s.stage a after.machine.bus t (after.phases s.thread) (after.consulted s.thread)) (sym same.tree)
+      (subst (λ p. SessionStageKnows s.thread s.command s.stage a after.machine.bus w.tree p (after.consulted s.thread)) (sym same.phase)
+      (subst (λ c. SessionStageKnows s.thread s.command s.stage a after.machine.bus w.tree (w.phases s.thread) c) (sym same.consulted)
+      (stage_stays s.thread s.command a w.machine.bus after.machine.bus same.words same.holders same.register w.tree (w.phases s.thread) (w.consulted s.thread) s.stage k.1))),
 )
 
 -- So it stays where the bus is the same, where a further process was started, and where a further thread was.
@@ -312,7 +312,7 @@ knows_stays s a w after bus tree phase consulted = knows_seen s a w after (recor
   holders = ap (λ (b : Bus). b.holders) bus;
   register = ap (λ (b : Bus). pkru_of b s.thread) bus;
   registers = ap (λ (b : Bus). length b.pkrus) bus;
-  lives = subst (λ b. IsThread b s.thread) (sym bus);
+  lives = subst (λ b. ThreadWasStarted b s.thread) (sym bus);
   tree = tree;
   phase = phase;
   consulted = consulted;
@@ -325,14 +325,14 @@ knows_with_process s a w after process cred bus tree phase consulted = knows_see
   holders = ap (λ (b : Bus). b.holders) bus;
   register = ap (λ (b : Bus). pkru_of b s.thread) bus;
   registers = ap (λ (b : Bus). length b.pkrus) bus;
-  lives = subst (λ b. IsThread b s.thread) (sym bus);
+  lives = subst (λ b. ThreadWasStarted b s.thread) (sym bus);
   tree = tree;
   phase = phase;
   consulted = consulted;
 })
 
 -- a thread that was started lives among more threads
-lives_still : (bus : Bus) (thread process u : ℕ) → IsThread bus u → IsThread (with_thread thread process bus) u
+lives_still : (bus : Bus) (thread process u : ℕ) → ThreadWasStarted bus u → ThreadWasStarted (with_thread thread process bus) u
 lives_still bus thread process u lives =
     subst (λ (ts : List ℕ). Contains ts u) (sym (map-append (λ (t : ℕ × ℕ). t.0) bus.threads ((thread, process) ∷ []))) (Contains-append_left (map (λ (t : ℕ × ℕ). t.0) bus.threads) (thread ∷ []) u lives)
 
@@ -343,7 +343,7 @@ knows_with_thread s a w after thread process bus tree phase consulted = knows_se
   holders = ap (λ (b : Bus). b.holders) bus;
   register = ap (λ (b : Bus). pkru_of b s.thread) bus;
   registers = ap (λ (b : Bus). length b.pkrus) bus;
-  lives = λ lives. subst (λ b. IsThread b s.thread) (sym bus) (lives_still w.machine.bus thread process s.thread lives);
+  lives = λ lives. subst (λ b. ThreadWasStarted b s.thread) (sym bus) (lives_still w.machine.bus thread process s.thread lives);
   tree = tree;
   phase = phase;
   consulted = consulted;
@@ -355,7 +355,7 @@ bare_keys bus none row among = absurd (contains_none row (subst (λ (hs : List H
 
 pub knows_keys : (s : Session) (a : Answer) (w : World) → SessionKnows s a w → (row : Holder) → Contains w.machine.bus.holders row → (1 ≤ row.key) × (row.key ≤ 15)
 knows_keys s a w k row among =
-    let first : 1 ≡ row.key = ap (λ (h : Holder). h.key) (own_rows s.thread s.command.now a w.machine.bus w.tree (w.phases s.thread) (w.consulted s.thread) s.stage k.1 row among) in
+    let first : 1 ≡ row.key = ap (λ (h : Holder). h.key) (own_rows s.thread s.command a w.machine.bus w.tree (w.phases s.thread) (w.consulted s.thread) s.stage k.1 row among) in
     (omega (arith, first), omega (arith, first))
 
 -- A store under a closed register is a fault.

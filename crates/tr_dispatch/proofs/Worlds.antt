@@ -4,13 +4,13 @@ use Rattle.std.proofs.lemmas.Bool.{eq-eqb}
 use Rattle.std.proofs.lemmas.List.{length-set}
 use Rattle.pm_words.specs.Word.{Word}
 use Rattle.zo_layout.specs.Layout.{page_at, root_control, root_page}
-use Rattle.tr_types.specs.Machine.{Bus, acted, held, callers_of, registered, bus_after, IsBuilt}
-use Rattle.tr_types.specs.KernelCalls.{holders_after}
-use Rattle.tr_types.specs.Denotes.{control_of, dir_of}
-use Rattle.tr_types.specs.Rights.{closed_pkru}
-use Rattle.tr_types.specs.Tree.{Member}
-use Rattle.tr_types.specs.World.{World, Phase, Idle, Runs, Committed, put, put_consulted, stepped, told, phase_after, consulted_after, changed, committed, pool_of, SparesKernel, MapsConsulted, Asked}
-use Rattle.tr_types.specs.Windows.{FindsShut}
+use Rattle.bus_model.specs.Machine.{Bus, acted, held, callers_of, registered, bus_after, IsAction}
+use Rattle.kern_model.specs.KernelCalls.{holders_after}
+use Rattle.tr_model.specs.Denotes.{control_of, dir_of}
+use Rattle.kern_model.specs.Rights.{closed_pkru}
+use Rattle.zo_model.specs.Tree.{Member}
+use Rattle.tr_model.specs.World.{World, Phase, Idle, Runs, Committed, put, put_consulted, stepped, told, phase_after, consulted_after, changed, committed, pool_of, SparesKernel, MapsConsulted, Asked}
+use Rattle.tr_model.specs.Windows.{FindsShut}
 use Rattle.tr_types.specs.declared.action.Action.{Action}
 use Rattle.tr_types.specs.declared.action.Action.TheVariants.{Load, Store, Cas, Flush, Fence, Pkru, Kernel}
 use Rattle.tr_types.specs.declared.action.Answer.{Answer}
@@ -22,8 +22,8 @@ use Rattle.tr_types.specs.declared.entry.Mark.TheVariants.{Plain, Open, Close, T
 use Rattle.tr_types.specs.declared.kernel_call.Kcall.{Kcall}
 use Rattle.tr_types.specs.declared.kernel_call.Kcall.TheVariants as kcall
 use Rattle.tr_types.specs.declared.kernel_call.KernAnswer.TheVariants as kern
-use Rattle.tr_types.proofs.MachineLemmas.{pages_acted}
-use Rattle.tr_types.proofs.RootLemmas.{enlarge_held}
+use Rattle.bus_model.proofs.MachineLemmas.{pages_acted}
+use Rattle.tr_model.proofs.RootLemmas.{enlarge_held}
 use Rattle.zo_ops.specs.Calls.{IsCallAction}
 use Rattle.zo_ops.specs.Reach.{IsReachable}
 use Rattle.tr_dispatch.specs.declared.session.Stage.{Stage}
@@ -181,7 +181,7 @@ module _ (command : Command) (words : List Word) where
   consulted_stays (Committed reply) action answer coffer reached = refl
 
   -- such an action is built, and maps nothing
-  built_call : (call : Kcall) → IsReachable command words (Kernel call) → IsBuilt (Kernel call)
+  built_call : (call : Kcall) → IsReachable command words (Kernel call) → IsAction (Kernel call)
   built_call (kcall.Find path also) reached = absurd reached.1
   built_call (kcall.Map path right exclusive) reached = absurd reached.1
   built_call (kcall.Unmap id) reached = tt
@@ -194,7 +194,7 @@ module _ (command : Command) (words : List Word) where
   built_call (kcall.Mode id mode) reached = absurd reached.1
   built_call (kcall.Recover id ready) reached = absurd reached.1
 
-  pub is_built : (action : Action) → IsReachable command words action → IsBuilt action
+  pub is_built : (action : Action) → IsReachable command words action → IsAction action
   is_built (Load addr) reached = tt
   is_built (Store addr word) reached = tt
   is_built (Cas addr old new) reached = absurd reached

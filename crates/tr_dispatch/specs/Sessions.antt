@@ -1,20 +1,20 @@
 -- The session of one call: the thread finds and maps the coffer that its command consults, opens the coffer's key alone,
 -- lets the call work, closes its register, unmaps the coffer, and replies. What it knows between two of its actions,
 -- stage by stage, and what it gives.
-use Rattle.std.specs.Prelude.{◌≡◌, ◌≢◌, ℕ, ◌<◌, List, [], ◌∷◌, length, Option, Some, None, Bool, true, false}
+use Rattle.std.specs.Prelude.{◌≡◌, ◌≢◌, ℕ, ◌<◌, List, [], ◌∷◌, length, Option, Some, None, unwrap_or, Bool, true, false}
 use Rattle.pm_words.specs.Word.{Word}
 use Rattle.pm_words.specs.Memory.{HasPages}
 use Rattle.zo_layout.specs.Layout.{kernel_pages}
-use Rattle.tr_types.specs.KernelView.{pages_of, owner_of}
-use Rattle.tr_types.specs.RootCoffer.{IsRootAlone, found_at, root_mapped}
-use Rattle.tr_types.specs.Machine.{Bus, IsThread, pkru_of, Answers, IsBuilt}
-use Rattle.tr_types.specs.Rights.{closed_pkru, only_pkru}
-use Rattle.tr_types.specs.Marks.{mark_of}
-use Rattle.tr_types.specs.Tree.{Member}
-use Rattle.tr_types.specs.Denotes.{control_of, dir_of, Denotes}
-use Rattle.tr_types.specs.Commands.{IsCommand, consulted_path}
-use Rattle.tr_types.specs.World.{World, Phase, NotYet, Idle, Runs, Committed, stepped, IsLegal, MayReply}
-use Rattle.tr_types.specs.Windows.{FindsShut}
+use Rattle.kern_model.specs.KernelView.{pages_of, owner_of}
+use Rattle.tr_model.specs.RootCoffer.{IsRootAlone, found_at, root_mapped}
+use Rattle.bus_model.specs.Machine.{Bus, ThreadWasStarted, pkru_of, Answers, IsAction}
+use Rattle.kern_model.specs.Rights.{closed_pkru, only_pkru}
+use Rattle.tr_model.specs.Marks.{mark_of}
+use Rattle.zo_model.specs.Tree.{Member}
+use Rattle.tr_model.specs.Denotes.{control_of, dir_of, Denotes}
+use Rattle.zo_model.specs.Commands.{IsCommand, consulted_path}
+use Rattle.tr_model.specs.World.{World, Phase, NotYet, Idle, Runs, Committed, stepped, IsLegal, MayReply}
+use Rattle.tr_model.specs.Windows.{FindsShut}
 use Rattle.tr_types.specs.declared.action.Action.{Action}
 use Rattle.tr_types.specs.declared.action.Answer.{Answer}
 use Rattle.tr_types.specs.declared.action.Answer.TheVariants.{Done, Kern}
@@ -34,8 +34,6 @@ use Rattle.tr_dispatch.specs.declared.session.SessionStep.{SessionStep}
 use Rattle.tr_dispatch.specs.declared.session.SessionStep.TheVariants as step
 use Rattle.tr_dispatch.specs.declared.session.Stage.{Stage}
 use Rattle.tr_dispatch.specs.declared.session.Stage.TheVariants as stage
-use Rattle.tr_dispatch.specs.declared.session.Next.{Next}
-use Rattle.tr_dispatch.specs.declared.session.Next.TheVariants as next
 
 -- the words lie as a call finds them, the tree is theirs, and the root coffer is the only one
 abbrev pub IsGrounded : List Word → List Member → Type 0
@@ -84,7 +82,7 @@ pub record HasKernel (words : List Word) : Type 0 where
 
 -- a call that works for the command in the root coffer of these words
 pub record WorksFor (command : Command) (call : CallRun) (words : List Word) : Type 0 where
-  pub command_is : call.command.now ≡ command
+  pub command_is : call.command ≡ command
   pub control : call.coffer.control.at ≡ control_of words
   pub dir : call.coffer.dir.at ≡ dir_of words
   pub kernel : HasKernel words
@@ -113,7 +111,7 @@ SessionStageKnows thread command stage.Over answer bus tree phase consulted = �
 
 -- the thread was started, has a register, and the command is one that can be given
 pub record Sits (thread : ℕ) (command : Command) (w : World) : Type 0 where
-  pub lives : IsThread w.machine.bus thread
+  pub lives : ThreadWasStarted w.machine.bus thread
   pub register : thread < length w.machine.bus.pkrus
   pub valid : IsCommand command
 
@@ -123,14 +121,14 @@ KnowsAt thread command stage answer w =
 
 -- what a session knows with the answer that it gets next
 abbrev pub SessionKnows : Session → Answer → World → Type 0
-SessionKnows s answer w = KnowsAt s.thread s.command.now s.stage answer w
+SessionKnows s answer w = KnowsAt s.thread s.command s.stage answer w
 
 -- the session's thread and command
 abbrev pub thread_of : Session → ℕ
 thread_of s = s.thread
 
 abbrev pub command_of : Session → Command
-command_of s = s.command.now
+command_of s = s.command
 
 -- what is known at the begin of a session: nobody holds a coffer, the thread's register is closed, and its call is new
 pub record BeginsAt (thread : ℕ) (command : Command) (w : World) : Type 0 where
@@ -150,7 +148,7 @@ pub record SessionGoes (Known : Answer → World → Type 0) (thread : ℕ) (mar
 -- however it is answered, the session goes on.
 pub record SessionActs (Known : Answer → World → Type 0) (thread : ℕ) (command : Command) (mark : Mark) (action : Action) (w : World) : Type 0 where
   pub marked : mark ≡ mark_of (dir_of w.machine.bus.words) command action
-  pub built : IsBuilt action
+  pub built : IsAction action
   pub shut : (answer : Answer) → FindsShut w (entry.Act thread 0 mark action answer)
   pub goes : (answer : Answer) → Answers w.machine.bus thread 0 action answer → SessionGoes Known thread mark action w answer
 
@@ -160,18 +158,34 @@ pub record SessionEnds (thread : ℕ) (reply : Reply) (w : World) : Type 0 where
   pub bare : IsBare w.machine.bus thread
   pub grounded : IsGrounded w.machine.bus.words w.tree
 
-abbrev pub NextGives : ℕ → Command → Next → World → Type 0
-NextGives thread command (next.Act mark action stage) w = SessionActs (KnowsAt thread command stage) thread command mark action w
-NextGives thread command (next.Over reply) w = SessionEnds thread reply w
+-- what a session that has come to a stage gives
+abbrev pub StageGives : ℕ → Command → Stage → SessionStep → World → Type 0
+StageGives thread command after (step.Act action mark) w = SessionActs (KnowsAt thread command after) thread command mark action w
+StageGives thread command after (step.Over reply) w = SessionEnds thread reply w
 
-abbrev pub SessionGives : Session → SessionStep → World → Type 0
-SessionGives s (step.Act mark action) w = SessionActs (SessionKnows s) s.thread s.command.now mark action w
-SessionGives s (step.Over reply) w = SessionEnds s.thread reply w
-
--- what comes after an answer, where this was known with it
-abbrev pub NextFrom : ℕ → Command → Stage → Answer → Next → Type 0
-NextFrom thread command stage answer n = (w : World) → KnowsAt thread command stage answer w → NextGives thread command n w
+-- the step that leads from a stage to another, where this was known with the answer
+abbrev pub LeadsTo : ℕ → Command → Stage → Answer → Stage → SessionStep → Type 0
+LeadsTo thread command before answer after step = (w : World) → KnowsAt thread command before answer w → StageGives thread command after step w
 
 -- a step that a session gives where it knew what its stage asked for
 abbrev pub SessionStepsFrom : Session → Answer → Session → SessionStep → Type 0
-SessionStepsFrom old answer new step = (w : World) → SessionKnows old answer w → SessionGives new step w
+SessionStepsFrom old answer new step = LeadsTo old.thread old.command old.stage answer new.stage step
+
+-- the first step has no use for its answer
+abbrev pub answer_told : Option Answer → Answer
+answer_told answer = unwrap_or answer Done
+
+-- the reply was given
+abbrev pub is_over : Stage → Bool
+is_over stage.Over = true
+is_over s = false
+
+-- a session goes on after each action
+abbrev pub RunsOn : Stage → SessionStep → Type 0
+RunsOn after (step.Act action mark) = is_over after ≡ false
+RunsOn after (step.Over reply) = Unit {0}
+
+-- an action of a session is one that the machine takes
+abbrev pub GivesAction : SessionStep → Type 0
+GivesAction (step.Act action mark) = IsAction action
+GivesAction (step.Over reply) = Unit {0}

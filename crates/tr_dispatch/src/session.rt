@@ -1,11 +1,11 @@
 // One call of a thread, from the look for its coffer to the reply: a step machine that gives one action at a time and
 // is told the answer. The coffer's key is open while the call works in it, and at no other time.
-ghost use Rattle.std.specs.Prelude.{◌≡◌, ◌≢◌, ◌↔◌, ◌≤◌, ℕ, IfOk, IsTrue, MatchOption, None, false};
-ghost use Rattle.tr_types.specs.Commands.{consulted_path};
-ghost use Rattle.tr_types.specs.Rights.{closed_pkru};
-ghost use Rattle.tr_types.specs.World.{World};
+ghost use Rattle.std.specs.Prelude.{◌≡◌, ◌≢◌, ◌↔◌, ◌≤◌, IfOk, IsTrue, MatchOption, None, false};
+ghost use Rattle.std.specs.Option.{option_copied};
+ghost use Rattle.zo_model.specs.Commands.{IsCommand, consulted_path};
+ghost use Rattle.kern_model.specs.Rights.{closed_pkru};
 ghost use Rattle.tr_types.specs.declared.action.Answer.{Answer};
-ghost use Rattle.tr_dispatch.specs.Sessions.{BeginsAt, SessionKnows, SessionStepsFrom, NextFrom, writes, right_of};
+ghost use Rattle.tr_dispatch.specs.Sessions.{GivesAction, LeadsTo, RunsOn, SessionStepsFrom, answer_told, is_over, writes, right_of};
 ghost use Rattle.tr_dispatch.specs.declared.session.Stage.TheVariants as stage;
 
 use page_rights::Pkru;
@@ -23,45 +23,38 @@ const LAST_KEY: u8 = 15;
 
 /// A running call of a thread, with all that it does before and after its work in the coffer.
 #[derive(Debug, Drop)]
-pub struct Session<'a> {
+pub struct Session {
     thread: u16,
-    command: &'a Command,
-    stage: Stage<'a>,
+    command: Command,
+    stage: Stage,
 }
 
-/// What a session does next.
+/// What a session does next: an action, which it is told the answer to, or the reply, which is its last step.
 #[derive(Debug, Drop)]
 pub enum SessionStep {
-    Act(Mark, Action),
+    Act(Action, Mark),
     Over(Reply),
 }
 
 /// What the session waits for.
 #[derive(Debug, Drop)]
-enum Stage<'a> {
+enum Stage {
     Begin,
     Finding,
     Mapping,
     /// The window is open, and the answer is the call's. (Of the one to its opening the call has no use.)
-    Working(CallRun<'a>),
+    Working(CallRun),
     Closing(Reply),
     Ending(Reply),
     Over,
 }
 
-/// What comes after an answer: an action, and what the session then waits for, or the reply.
-#[derive(Debug, Drop)]
-enum Next<'a> {
-    Act(Mark, Action, Stage<'a>),
-    Over(Reply),
-}
-
-impl<'a> Session<'a> {
+impl Session {
     /// The session of a thread's call with this command. Addresses in its actions are in bytes.
-    pub fn begin(thread: u16, command: &'a Command) -> Session<'a>
+    pub fn begin(thread: u16, command: Command) -> Session
         ensures thread { result.thread ≡ thread }
-        ensures command { result.command.now ≡ command.now }
-        ensures knows { (first : Answer) (w : World) → BeginsAt thread command.now w → SessionKnows result first w }
+        ensures command { result.command ≡ command }
+        ensures stage { result.stage ≡ stage.Begin }
     {
         Session {
             thread,
@@ -77,133 +70,135 @@ impl<'a> Session<'a> {
         self.thread
     }
 
-    /// Goes on with the answer to the last action. The first call has no use for its answer.
-    pub fn next(&mut self, alloc: Global, answer: &Answer) -> Result<SessionStep, AllocError>
-        ensures thread { self.new.thread ≡ self.old.thread }
-        ensures command { self.new.command.now ≡ self.old.command.now }
-        ensures gives { IfOk result (SessionStepsFrom self.old answer.now self.new) }
-    {
-        let stage = mem::replace(&mut self.stage, Stage::Over);
-        match self.after(alloc, stage, answer)? {
-            Next::Act(mark, action, stage) => {
-                self.stage = stage;
-                Ok(SessionStep::Act(mark, action))
-            }
-            Next::Over(reply) => Ok(SessionStep::Over(reply)),
-        }
-    }
-
-    fn after(
-        &self,
+    /// Goes on at this tick with the answer to the last action; there is none at the first step. After the reply no
+    /// step is left. No action depends on the tick yet, since no lease exists.
+    pub fn next(
+        &mut self,
         alloc: Global,
-        stage: Stage<'a>,
-        answer: &Answer,
-    ) -> Result<Next<'a>, AllocError>
-        ensures gives { IfOk result (NextFrom self.now.thread self.now.command.now stage.entry answer.now) }
+        answer: Option<&Answer>,
+        _now: u32,
+    ) -> Result<SessionStep, AllocError>
+        requires runs { is_over self.old.stage ≡ false }
+        ensures thread { self.new.thread ≡ self.old.thread }
+        ensures command { self.new.command ≡ self.old.command }
+        ensures runs { IfOk result (RunsOn self.new.stage) }
+        ensures built { IsCommand self.old.command → IfOk result GivesAction }
+        ensures gives { IfOk result (SessionStepsFrom self.old (answer_told (option_copied answer.entry)) self.new) }
     {
-        match stage {
+        let answer = answer.unwrap_or(&Answer::Done);
+        match mem::replace(&mut self.stage, Stage::Over) {
             Stage::Begin => self.find(alloc),
             Stage::Finding => self.map(alloc, answer),
-            Stage::Mapping => Ok(self.open(answer)),
+            Stage::Mapping => self.open(alloc, answer),
             Stage::Working(call) => self.work(alloc, call, answer),
-            Stage::Closing(reply) => unmap(alloc, reply),
-            Stage::Ending(reply) => Ok(Next::Over(reply)),
-            Stage::Over => Ok(damaged()),
+            Stage::Closing(reply) => self.unmap(alloc, reply),
+            Stage::Ending(reply) => Ok(SessionStep::Over(reply)),
+            Stage::Over => unreachable!(),
         }
     }
 
-    fn find(&self, alloc: Global) -> Result<Next<'a>, AllocError>
-        ensures gives { (answer : Answer) → IfOk result (NextFrom self.now.thread self.now.command.now stage.Begin answer) }
+    fn find(&mut self, alloc: Global) -> Result<SessionStep, AllocError>
+        ensures same { (self.new.thread ≡ self.old.thread) × (self.new.command ≡ self.old.command) }
+        ensures runs { IfOk result (RunsOn self.new.stage) }
+        ensures built { IsCommand self.old.command → IfOk result GivesAction }
+        ensures gives { (answer : Answer) → IfOk result (LeadsTo self.old.thread self.old.command stage.Begin answer self.new.stage) }
     {
-        let path = consulted_path(alloc, self.command)?;
-        kernel(alloc, Kcall::Find { path, also: None }, Stage::Finding)
+        let path = consulted_path(alloc, &self.command)?;
+        let look = kernel(alloc, Kcall::Find { path, also: None })?;
+        self.stage = Stage::Finding;
+        Ok(SessionStep::Act(look, Mark::Plain))
     }
 
     // The coffer is found.
-    fn map(&self, alloc: Global, answer: &Answer) -> Result<Next<'a>, AllocError>
-        ensures gives { IfOk result (NextFrom self.now.thread self.now.command.now stage.Finding answer.now) }
+    fn map(&mut self, alloc: Global, answer: &Answer) -> Result<SessionStep, AllocError>
+        ensures same { (self.new.thread ≡ self.old.thread) × (self.new.command ≡ self.old.command) }
+        ensures runs { IfOk result (RunsOn self.new.stage) }
+        ensures built { IsCommand self.old.command → IfOk result GivesAction }
+        ensures gives { IfOk result (LeadsTo self.old.thread self.old.command stage.Finding answer.now self.new.stage) }
     {
         if !is_found(answer) {
             return Ok(damaged());
         }
         let call = Kcall::Map {
-            path: consulted_path(alloc, self.command)?,
-            right: right_of(self.command),
+            path: consulted_path(alloc, &self.command)?,
+            right: right_of(&self.command),
             exclusive: false,
         };
-        kernel(alloc, call, Stage::Mapping)
+        let map = kernel(alloc, call)?;
+        self.stage = Stage::Mapping;
+        Ok(SessionStep::Act(map, Mark::Plain))
     }
 
     // The coffer is mapped.
-    fn open(&self, answer: &Answer) -> Next<'a>
-        ensures gives { NextFrom self.now.thread self.now.command.now stage.Mapping answer.now result }
+    fn open(&mut self, alloc: Global, answer: &Answer) -> Result<SessionStep, AllocError>
+        ensures same { (self.new.thread ≡ self.old.thread) × (self.new.command ≡ self.old.command) }
+        ensures runs { IfOk result (RunsOn self.new.stage) }
+        ensures built { IfOk result GivesAction }
+        ensures gives { IfOk result (LeadsTo self.old.thread self.old.command stage.Mapping answer.now self.new.stage) }
     {
         let Some(m) = mapped(answer) else {
-            return damaged();
+            return Ok(damaged());
         };
         let Some(coffer) = Coffer::of_pages(m.control, m.root) else {
-            return damaged();
+            return Ok(damaged());
         };
         if !is_key(m.key) {
-            return damaged();
+            return Ok(damaged());
         }
-        let pkru = Pkru::only(m.key, writes(self.command));
-        Next::Act(
-            Mark::Open,
-            Action::Pkru(pkru.0),
-            Stage::Working(CallRun::begin(coffer, self.command)),
-        )
+        let call = CallRun::begin(coffer, self.command.copy(alloc)?);
+        let pkru = Pkru::only(m.key, writes(&self.command));
+        self.stage = Stage::Working(call);
+        Ok(SessionStep::Act(Action::Pkru(pkru.0), Mark::Open))
     }
 
     // The call goes on; at its end the window is closed.
     fn work(
-        &self,
+        &mut self,
         alloc: Global,
-        mut call: CallRun<'a>,
+        mut call: CallRun,
         answer: &Answer,
-    ) -> Result<Next<'a>, AllocError>
-        ensures gives { IfOk result (NextFrom self.now.thread self.now.command.now (stage.Working call.entry) answer.now) }
+    ) -> Result<SessionStep, AllocError>
+        ensures same { (self.new.thread ≡ self.old.thread) × (self.new.command ≡ self.old.command) }
+        ensures runs { IfOk result (RunsOn self.new.stage) }
+        ensures built { IfOk result GivesAction }
+        ensures gives { IfOk result (LeadsTo self.old.thread self.old.command (stage.Working call) answer.now self.new.stage) }
     {
         match call.next(alloc, answer)? {
-            CallStep::Act(mark, action) => Ok(Next::Act(mark, action, Stage::Working(call))),
-            CallStep::Over(reply) => Ok(close(reply)),
+            CallStep::Act(mark, action) => {
+                self.stage = Stage::Working(call);
+                Ok(SessionStep::Act(action, mark))
+            }
+            CallStep::Over(reply) => {
+                self.stage = Stage::Closing(reply);
+                Ok(SessionStep::Act(Action::Pkru(Pkru::closed().0), Mark::Close))
+            }
         }
+    }
+
+    // The window is closed: gives the coffer back.
+    fn unmap(&mut self, alloc: Global, reply: Reply) -> Result<SessionStep, AllocError>
+        ensures same { (self.new.thread ≡ self.old.thread) × (self.new.command ≡ self.old.command) }
+        ensures runs { IfOk result (RunsOn self.new.stage) }
+        ensures built { IfOk result GivesAction }
+        ensures gives { (answer : Answer) → IfOk result (LeadsTo self.old.thread self.old.command (stage.Closing reply) answer self.new.stage) }
+    {
+        let unmap = kernel(alloc, Kcall::Unmap { id: ROOT_COFFER })?;
+        self.stage = Stage::Ending(reply);
+        Ok(SessionStep::Act(unmap, Mark::Plain))
     }
 }
 
-fn kernel<'a>(alloc: Global, call: Kcall, stage: Stage<'a>) -> Result<Next<'a>, AllocError>
-    ensures { IfOk result (λ next. next ≡ Next.Act Mark.Plain (Action.Kernel call) stage.entry) }
+fn kernel(alloc: Global, call: Kcall) -> Result<Action, AllocError>
+    ensures { IfOk result (λ action. action ≡ Action.Kernel call) }
 {
-    Ok(Next::Act(Mark::Plain, Action::Kernel(Boxed::new(alloc, call)?), stage))
-}
-
-// The call is over: closes the window.
-fn close<'a>(reply: Reply) -> Next<'a>
-    ensures { result ≡ Next.Act Mark.Close (Action.Pkru closed_pkru) (Stage.Closing reply) }
-{
-    Next::Act(
-        Mark::Close,
-        Action::Pkru(Pkru::closed().0),
-        Stage::Closing(reply),
-    )
-}
-
-// The window is closed: gives the coffer back.
-fn unmap<'a>(alloc: Global, reply: Reply) -> Result<Next<'a>, AllocError>
-    ensures { IfOk result (λ next. next ≡ Next.Act Mark.Plain (Action.Kernel (Kcall.Unmap 1)) (Stage.Ending reply)) }
-{
-    kernel(
-        alloc,
-        Kcall::Unmap { id: ROOT_COFFER },
-        Stage::Ending(reply),
-    )
+    Ok(Action::Kernel(Boxed::new(alloc, call)?))
 }
 
 // An answer that doesn't fit.
-fn damaged<'a>() -> Next<'a>
-    ensures { result ≡ Next.Over (Reply.Damaged 0) }
+fn damaged() -> SessionStep
+    ensures { result ≡ SessionStep.Over (Reply.Damaged 0) }
 {
-    Next::Over(Reply::Damaged { addr: 0 })
+    SessionStep::Over(Reply::Damaged { addr: 0 })
 }
 
 // The path whose coffer a command consults: of a `create` that of the root directory.

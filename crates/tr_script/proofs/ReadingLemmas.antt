@@ -8,7 +8,7 @@ use Rattle.std.specs.Fmt.{decimal}
 use Rattle.tr_types.specs.declared.command.Command.{Command}
 use Rattle.tr_types.specs.declared.command.Command.TheVariants.{Create, Stat}
 use Rattle.tr_script.specs.Grammar.{Declared, declared, nothing_declared, words_of, lines_of, is_kept, kept_lines, command_words, line_words, MayStand, IsThreadOf}
-use Rattle.tr_types.specs.Commands.{IsCommand}
+use Rattle.zo_model.specs.Commands.{IsCommand}
 use Rattle.tr_script.specs.Places.{FirstWord, IsBadAt, IsBadIn}
 use Rattle.tr_script.specs.Reading.{OnBad, Reads}
 use Rattle.tr_script.specs.declared.reader.place.Place.{Place}
@@ -113,7 +113,8 @@ same_line d named (Process process cred) (Process process2 cred2) may_a may_b sa
     let processes = same_name 112 process process2 (let low = may_a.2 in omega arith) (let low = may_b.2 in omega arith) words in
     let uids : cred.uid ≡ cred2.uid = may_a.3 ∙ sym may_b.3 in
     let gids : cred.gid ≡ cred2.gid = may_a.4 ∙ sym may_b.4 in
-    λ i. Process (processes i) (record { uid = uids i; gid = gids i })
+    let groups : cred.groups ≡ cred2.groups = may_a.5 ∙ sym may_b.5 in
+    λ i. Process (processes i) (record { uid = uids i; gid = gids i; groups = groups i })
 same_line d named (Thread thread process) (Thread thread2 process2) may_a may_b same =
     let words : 116 ∷ decimal (thread + 1) ≡ 116 ∷ decimal (thread2 + 1) = cc in
     let words2 : 112 ∷ decimal (process + 1) ≡ 112 ∷ decimal (process2 + 1) = cc in

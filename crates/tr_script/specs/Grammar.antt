@@ -3,9 +3,10 @@
 use Rattle.std.specs.Prelude.{◌≡◌, ◌≢◌, ℕ, ◌+◌, ◌/◌, ◌%◌, ◌<◌, ◌≤◌, List, [], ◌∷◌, ◌++◌, length, map, filter, Contains, Bool, true, false, not, Option, Some, None, if◌then◌else◌, ◌==◌, codes}
 use Rattle.std.specs.Fmt.{decimal}
 use Rattle.tr_types.specs.Fold.{Each}
+use Rattle.tr_types.specs.Permission.{no_groups}
 use Rattle.tr_types.specs.declared.command.Command.{Command}
 use Rattle.tr_types.specs.declared.command.Command.TheVariants.{Create, Stat}
-use Rattle.tr_types.specs.Commands.{IsCommand}
+use Rattle.zo_model.specs.Commands.{IsCommand}
 use Rattle.tr_text.specs.Spelling.{process_name, thread_name, mode_text}
 use Rattle.tr_script.specs.declared.script.Line.{Line}
 use Rattle.tr_script.specs.declared.script.Line.TheVariants.{Mkfs, Process, Thread, Call, Do, Finish, Open, Stray}
@@ -90,7 +91,7 @@ IsScriptAddress addr = (addr % 8 ≡ 0) × (addr ≤ 67108856)
 -- given, and that thread doesn't stray.
 abbrev pub MayStand : Declared → Line → Type 0
 MayStand d (Mkfs pages) = (d.begun ≡ false) × (64 ≤ pages) × (pages ≤ 16384)
-MayStand d (Process process cred) = (d.begun ≡ true) × (Contains d.processes process → ⊥) × (process < 64) × (cred.uid ≡ 0) × (cred.gid ≡ 0)
+MayStand d (Process process cred) = (d.begun ≡ true) × (Contains d.processes process → ⊥) × (process < 64) × (cred.uid ≡ 0) × (cred.gid ≡ 0) × (cred.groups ≡ no_groups)
 MayStand d (Thread thread process) = (d.begun ≡ true) × (IsThreadOf d thread → ⊥) × (thread < 256) × Contains d.processes process
 MayStand d (Call thread command) = (d.begun ≡ true) × IsThreadOf d thread × IsCommand command × (d.calling ≡ None)
 MayStand d (Do thread command) = (d.begun ≡ true) × IsThreadOf d thread × IsCommand command × (d.calling ≡ None)

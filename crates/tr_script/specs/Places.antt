@@ -2,7 +2,7 @@
 -- says which words may stand at a kind of place, and which kinds of place are then still to come.
 use Rattle.std.specs.Prelude.{◌≡◌, ◌≢◌, ◌⊎◌, ℕ, ◌+◌, ◌-◌, ◌<◌, ◌≤◌, List, [], ◌∷◌, ◌++◌, length, take, Contains, true, false, Some, None, if◌then◌else◌, ◌==◌, bytes_eq, codes}
 use Rattle.std.specs.Fmt.{decimal}
-use Rattle.tr_types.specs.Commands.{IsPath, IsPathOfOne}
+use Rattle.zo_model.specs.Commands.{IsPath, IsPathOfOne}
 use Rattle.tr_script.specs.Grammar.{Declared, declared, nothing_declared, words_of, lines_of, is_kept, line_words, MayStand, IsThreadOf, IsScriptAddress, text_limit}
 use Rattle.tr_text.specs.Spelling.{process_name, thread_name, mode_text}
 use Rattle.tr_script.specs.declared.script.Line.{Line}

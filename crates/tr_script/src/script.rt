@@ -1,6 +1,7 @@
 // A script as data.
 ghost use Rattle.std.specs.Prelude.{◌≡◌};
 
+use sqlite_items::Boxed;
 use std::marker::Model;
 use tr_types::{Command, Cred};
 
@@ -9,7 +10,7 @@ use tr_types::{Command, Cred};
 pub enum Line {
     /// A new image of so many pages.
     Mkfs(u32),
-    Process { process: u8, cred: Cred },
+    Process { process: u8, cred: Boxed<Cred> },
     Thread { thread: u16, process: u8 },
     /// Gives the command. No turn is made.
     Call { thread: u16, command: Command },

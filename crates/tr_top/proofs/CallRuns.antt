@@ -1,6 +1,6 @@
 -- What holds while turns of a call are made.
 use Rattle.std.proofs.Common.{◌≡◌, ◌≢◌, ℕ, List, ◌∷◌, map, Bool, true, false, cond, ne_eqb, Option, Some, None, Ok, refl, sym, ap, ◌∙◌}
-use Rattle.tr_types.specs.Machine.{Machine}
+use Rattle.bus_model.specs.Machine.{Machine}
 use Rattle.tr_types.specs.declared.entry.Entry.{Entry}
 use Rattle.tr_types.specs.declared.entry.Mark.TheVariants as mark
 use Rattle.tr_types.specs.declared.permission.Cred.{Cred}
@@ -41,7 +41,7 @@ module _ (lines : List Line) (m : MachineView) (old trace new : List Entry) (cal
   P = place_after lines old
 
   abbrev one : Running
-  one = record { thread = call.session.thread; command = call.session.command.now }
+  one = record { thread = call.session.thread; command = call.session.command }
 
   running_is : P.running ≡ Some one
   running_is = ap (λ (p : Place). p.running) (sym runs.place) ∙ runs.stands.running

@@ -10,7 +10,7 @@ use Rattle.tr_types.specs.declared.entry.Entry.{Entry}
 use Rattle.tr_outside.specs.ImageBytes.{image_bytes}
 use Rattle.tr_outside.specs.Whole.{AppendsFront, ReadsUpTo}
 use Rattle.bus_machine.specs.View.{MachineView}
-use Rattle.tr_types.specs.Machine.{Bus}
+use Rattle.bus_model.specs.Machine.{Bus}
 use Rattle.tr_top.specs.declared.log.Stop.{Stop}
 use Rattle.tr_top.specs.declared.log.Stop.TheVariants as stop
 use Rattle.tr_script.specs.declared.script.Line.{Line}

@@ -2,7 +2,7 @@
 use Rattle.std.proofs.Common.{◌≡◌, ℕ, List, [], ◌∷◌, ◌++◌, Bool, true, false, cond, Option, Some, None, refl, sym, ap, subst, ◌∙◌, eq-eqb}
 use Rattle.std.proofs.lemmas.List.{map-append}
 use Rattle.zo_layout.specs.Layout.{page_at, root_page}
-use Rattle.tr_types.specs.World.{World, stepped}
+use Rattle.tr_model.specs.World.{World, stepped}
 use Rattle.tr_types.specs.declared.action.Answer.TheVariants.{Fault}
 use Rattle.tr_types.specs.declared.action.FaultKind.{FaultKind}
 use Rattle.tr_types.specs.declared.command.Command.{Command}

@@ -3,10 +3,10 @@ use Rattle.std.proofs.Common.{◌≡◌, ℕ, ◌≤◌, List, [], ◌∷◌, �
 use Rattle.pm_words.specs.Memory.{present_values}
 use Rattle.pm_words.proofs.WordLemmas.{present_all_durable}
 use Rattle.zo_layout.specs.Layout.{page_at, root_page}
-use Rattle.tr_types.specs.KernelView.{pages_of}
-use Rattle.tr_types.specs.NewImage.{new_image}
-use Rattle.tr_types.specs.Machine.{Bus, IsProcess, IsThread, IsStored, with_process, with_thread, bus_after}
-use Rattle.tr_types.specs.World.{World, stepped, MayCome}
+use Rattle.kern_model.specs.KernelView.{pages_of}
+use Rattle.kern_model.specs.NewImage.{new_image}
+use Rattle.bus_model.specs.Machine.{Bus, ProcessWasStarted, ThreadWasStarted, IsStored, with_process, with_thread, bus_after}
+use Rattle.tr_model.specs.World.{World, stepped, MayCome}
 use Rattle.tr_types.specs.declared.action.Action.TheVariants.{Store}
 use Rattle.tr_types.specs.declared.action.Answer.{Answer}
 use Rattle.tr_types.specs.declared.action.Answer.TheVariants.{Fault}
@@ -25,7 +25,7 @@ use Rattle.tr_top.specs.Along.{Place, MayFollow, followed, rest}
 use Rattle.tr_top.specs.Run.{pages_made, opening, world_after, place_after}
 use Rattle.tr_top.specs.Running.{IsTied, IsAside, IsSound, Stands, StandsAs, IsNextLine, Passes, answer_to}
 use Rattle.tr_top.proofs.PlaceLemmas.{before_running, before_dir}
-use Rattle.tr_top.proofs.EntryLemmas.{Adds}
+use Rattle.tr_top.proofs.EntryLemmas.{Adds, thread_lives, process_lives}
 use Rattle.tr_top.proofs.StandLemmas.{quiet_seen, stands_seen, stands_sound, stands_added, sees_mkfs, sees_process, sees_thread, sees_fault}
 use Rattle.tr_top.proofs.LineLemmas.{next_follows, passes_mkfs, passes_fault}
 
@@ -41,10 +41,10 @@ module _ (lines : List Line) (m next : MachineView) (trace : List Entry) (call :
   process_stands process cred = stands_seen w (stepped w (entry.Process process cred)) p (followed p (entry.Process process cred)) trace (entry.Process process cred) call (sees_process w process cred)
       (before_running (rest p.left) p.running p.dir) (before_dir (rest p.left) p.running p.dir) stands
 
-  pub process_adds : (process : ℕ) (cred : Cred) → IsNextLine lines trace (Process process cred) → (IsProcess m.bus process → ⊥) → next ≡ with_bus (with_process process cred m.bus) → Adds lines next trace (entry.Process process cred)
+  pub process_adds : (process : ℕ) (cred : Cred) → IsNextLine lines trace (Process process cred) → (ProcessWasStarted m.bus process → ⊥) → next ≡ with_bus (with_process process cred m.bus) → Adds lines next trace (entry.Process process cred)
   process_adds process cred line fresh is = record {
     follows = next_follows p (Process process cred) line.next.below (entry.Process process cred) p.running p.dir line.next.place refl;
-    comes = (line.stands.2, λ among. fresh (subst (λ (b : Bus). IsProcess b process) (sym tied.bus) among));
+    comes = (line.stands.2, λ among. fresh (subst (λ (b : Bus). ProcessWasStarted b process) (sym tied.bus) among));
     sound = stands_sound w (entry.Process process cred) (followed p (entry.Process process cred)) (trace ++ entry.Process process cred ∷ []) call tt tt refl (process_stands process cred);
     bus = ap (λ (v : MachineView). v.bus) is ∙ ap (λ (b : Bus). with_process process cred b) tied.bus;
     works = ap (λ (v : MachineView). v.failed) is;
@@ -58,10 +58,10 @@ module _ (lines : List Line) (m next : MachineView) (trace : List Entry) (call :
   thread_stands thread process = stands_seen w (stepped w (entry.Thread thread process)) p (followed p (entry.Thread thread process)) trace (entry.Thread thread process) call (sees_thread w thread process)
       (before_running (rest p.left) p.running p.dir) (before_dir (rest p.left) p.running p.dir) stands
 
-  pub thread_adds : (thread process : ℕ) → IsNextLine lines trace (Thread thread process) → IsProcess m.bus process → (IsThread m.bus thread → ⊥) → next ≡ with_bus (with_thread thread process m.bus) → Adds lines next trace (entry.Thread thread process)
+  pub thread_adds : (thread process : ℕ) → IsNextLine lines trace (Thread thread process) → ProcessWasStarted m.bus process → (ThreadWasStarted m.bus thread → ⊥) → next ≡ with_bus (with_thread thread process m.bus) → Adds lines next trace (entry.Thread thread process)
   thread_adds thread process line known fresh is = record {
     follows = next_follows p (Thread thread process) line.next.below (entry.Thread thread process) p.running p.dir line.next.place refl;
-    comes = (line.stands.2, (λ lives. fresh (subst (λ (b : Bus). IsThread b thread) (sym tied.bus) lives)), subst (λ (b : Bus). IsProcess b process) tied.bus known);
+    comes = (line.stands.2, (λ lives. fresh (subst (λ (b : Bus). ThreadWasStarted b thread) (sym tied.bus) lives)), process_lives w.machine process tied.timeless (subst (λ (b : Bus). ProcessWasStarted b process) tied.bus known));
     sound = stands_sound w (entry.Thread thread process) (followed p (entry.Thread thread process)) (trace ++ entry.Thread thread process ∷ []) call tt tt refl (thread_stands thread process);
     bus = ap (λ (v : MachineView). v.bus) is ∙ ap (λ (b : Bus). with_thread thread process b) tied.bus;
     works = ap (λ (v : MachineView). v.failed) is;
@@ -87,16 +87,16 @@ module _ (lines : List Line) (m next : MachineView) (trace : List Entry) (call :
   fault_stands thread addr word kind = stands_seen w (stepped w (entry.Stray thread addr word (Fault kind))) p (followed p (entry.Stray thread addr word (Fault kind))) trace (entry.Stray thread addr word (Fault kind)) call (sees_fault w thread addr word kind)
       (before_running (rest p.left) p.running p.dir) (before_dir (rest p.left) p.running p.dir) stands
 
-  fault_adds : (thread addr word : ℕ) (kind : FaultKind) → IsNextLine lines trace (Stray thread addr word) → IsThread m.bus thread → IsStored m.bus thread addr (Fault kind) → next ≡ with_bus (bus_after thread 0 (Store addr word) (Fault kind) m.bus) → Adds lines next trace (entry.Stray thread addr word (Fault kind))
+  fault_adds : (thread addr word : ℕ) (kind : FaultKind) → IsNextLine lines trace (Stray thread addr word) → ThreadWasStarted m.bus thread → IsStored m.bus thread addr (Fault kind) → next ≡ with_bus (bus_after thread 0 (Store addr word) (Fault kind) m.bus) → Adds lines next trace (entry.Stray thread addr word (Fault kind))
   fault_adds thread addr word kind line lives stored is = record {
     follows = next_follows p (Stray thread addr word) line.next.below (entry.Stray thread addr word (Fault kind)) p.running p.dir line.next.place (refl, refl, refl);
-    comes = (subst (λ (b : Bus). IsThread b thread) tied.bus lives, subst (λ (b : Bus). IsStored b thread addr (Fault kind)) tied.bus stored);
+    comes = (thread_lives w.machine thread tied.timeless (subst (λ (b : Bus). ThreadWasStarted b thread) tied.bus lives), subst (λ (b : Bus). IsStored b thread addr (Fault kind)) tied.bus stored);
     sound = stands_sound w (entry.Stray thread addr word (Fault kind)) (followed p (entry.Stray thread addr word (Fault kind))) (trace ++ entry.Stray thread addr word (Fault kind) ∷ []) call tt tt refl (fault_stands thread addr word kind);
     bus = ap (λ (v : MachineView). v.bus) is ∙ ap (λ (b : Bus). bus_after thread 0 (Store addr word) (Fault kind) b) tied.bus;
     works = ap (λ (v : MachineView). v.failed) is;
   }
 
-  pub stray_adds : (thread addr word : ℕ) (answer : Answer) → IsNextLine lines trace (Stray thread addr word) → IsThread m.bus thread → IsStored m.bus thread addr answer → next ≡ with_bus (bus_after thread 0 (Store addr word) answer m.bus) → Adds lines next trace (entry.Stray thread addr word answer)
+  pub stray_adds : (thread addr word : ℕ) (answer : Answer) → IsNextLine lines trace (Stray thread addr word) → ThreadWasStarted m.bus thread → IsStored m.bus thread addr answer → next ≡ with_bus (bus_after thread 0 (Store addr word) answer m.bus) → Adds lines next trace (entry.Stray thread addr word answer)
   stray_adds thread addr word answer line lives stored is =
       let (kind, faults) = stray_faults thread addr word answer line stored in
       subst (λ (a : Answer). Adds lines next trace (entry.Stray thread addr word a)) (sym faults)

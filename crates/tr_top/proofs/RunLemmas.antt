@@ -4,10 +4,10 @@ use Rattle.std.proofs.lemmas.List.FromFn.{length-map-range_with_len}
 use Rattle.std.specs.declared.result.Result.{Result}
 use Rattle.std.specs.Io.KnownBytes.{Appends}
 use Rattle.pm_words.proofs.WordLemmas.{length_all_durable}
-use Rattle.tr_types.specs.KernelView.{pages_of}
-use Rattle.tr_types.specs.NewImage.{new_image, new_word}
-use Rattle.tr_types.specs.Machine.{Bus, HasRegisters, bus_over}
-use Rattle.tr_types.specs.World.{World, stepped, MayCome, world_of}
+use Rattle.kern_model.specs.KernelView.{pages_of}
+use Rattle.kern_model.specs.NewImage.{new_image, new_word}
+use Rattle.bus_model.specs.Machine.{Bus, HasRegisters, bus_over}
+use Rattle.tr_model.specs.World.{World, stepped, MayCome, world_of}
 use Rattle.tr_types.specs.declared.entry.Entry.{Entry}
 use Rattle.tr_types.proofs.FoldLemmas.{state_after_more, Each_more}
 use Rattle.bus_machine.specs.View.{MachineView}
@@ -19,8 +19,9 @@ use Rattle.tr_top.specs.declared.log.Stop.{Stop}
 use Rattle.tr_top.specs.declared.log.Stop.TheVariants.{Full, NoMemory, OutFailed}
 use Rattle.tr_top.specs.Along.{Place, Turns, Resting, MayFollow, IsNext, IsAtEnd, followed, start_of}
 use Rattle.tr_top.specs.Run.{IsRun, pages_made, world_after, place_after, opening}
-use Rattle.tr_top.specs.Running.{Added, Goes, IsTied, IsSound, IsFullAt}
-use Rattle.tr_types.proofs.MachineLemmas.{confined, registers_first}
+use Rattle.tr_top.specs.Running.{Added, Goes, IsTied, IsSound, IsFullAt, IsTimeless}
+use Rattle.tr_model.proofs.Confined.{confined}
+use Rattle.bus_model.proofs.MachineLemmas.{registers_first}
 
 pub world_more : (lines : List Line) (t : List Entry) (e : Entry) → world_after lines (t ++ e ∷ []) ≡ stepped (world_after lines t) e
 world_more lines t e = state_after_more stepped (world_of (opening lines)) t e
@@ -139,8 +140,8 @@ goes_then r lines old middle new taken mid now before between after one two = re
     rose b m a low r = omega (arith, low, r)
 
 -- The machine is that of the trace with one more entry.
-pub tied_more : (lines : List Line) (m next : MachineView) (old new : List Entry) (e : Entry) → IsTied lines m old → IsRun lines (old ++ e ∷ []) → new ≡ old ++ e ∷ [] → next.bus ≡ (stepped (world_after lines old) e).machine.bus → next.failed ≡ false → pages_of next.bus.words ≡ pages_of m.bus.words → HasRegisters next.bus → IsTied lines next new
-tied_more lines m next old new e tied run is same works size registers = record {
+pub tied_more : (lines : List Line) (m next : MachineView) (old new : List Entry) (e : Entry) → IsTied lines m old → IsRun lines (old ++ e ∷ []) → new ≡ old ++ e ∷ [] → next.bus ≡ (stepped (world_after lines old) e).machine.bus → next.failed ≡ false → pages_of next.bus.words ≡ pages_of m.bus.words → HasRegisters next.bus → IsTimeless (stepped (world_after lines old) e).machine → IsTied lines next new
+tied_more lines m next old new e tied run is same works size registers timeless = record {
   run = subst (IsRun lines) (sym is) run;
   bus = same ∙ ap (λ (w : World). w.machine.bus) (sym (ap (world_after lines) is ∙ world_more lines old e));
   works = works;
@@ -148,11 +149,12 @@ tied_more lines m next old new e tied run is same works size registers = record 
   most = tied.most;
   size = size ∙ tied.size;
   registers = registers;
+  timeless = subst (λ (w : World). IsTimeless w.machine) (sym (ap (world_after lines) is ∙ world_more lines old e)) timeless;
 }
 
-pub tied_added : (r : Result (Unit {0}) Stop) (lines : List Line) (m next : MachineView) (old new : List Entry) (e : Entry) (taken now : Option (List ℕ)) (before after : ℕ) → IsTied lines m old → IsRun lines (old ++ e ∷ []) → Added r e old new taken now before after → next.bus ≡ (stepped (world_after lines old) e).machine.bus → next.failed ≡ false → pages_of next.bus.words ≡ pages_of m.bus.words → HasRegisters next.bus → OnOk r (IsTied lines next new)
-tied_added (Ok v) lines m next old new e taken now before after tied run added same works size registers = tied_more lines m next old new e tied run added.0 same works size registers
-tied_added (Err stop) lines m next old new e taken now before after tied run added same works size registers = tt
+pub tied_added : (r : Result (Unit {0}) Stop) (lines : List Line) (m next : MachineView) (old new : List Entry) (e : Entry) (taken now : Option (List ℕ)) (before after : ℕ) → IsTied lines m old → IsRun lines (old ++ e ∷ []) → Added r e old new taken now before after → next.bus ≡ (stepped (world_after lines old) e).machine.bus → next.failed ≡ false → pages_of next.bus.words ≡ pages_of m.bus.words → HasRegisters next.bus → IsTimeless (stepped (world_after lines old) e).machine → OnOk r (IsTied lines next new)
+tied_added (Ok v) lines m next old new e taken now before after tied run added same works size registers timeless = tied_more lines m next old new e tied run added.0 same works size registers timeless
+tied_added (Err stop) lines m next old new e taken now before after tied run added same works size registers timeless = tt
 
 -- where an entry may follow, the end isn't reached
 pub not_at_end : (p : Place) (e : Entry) → MayFollow p e → IsAtEnd p → ⊥
@@ -174,6 +176,7 @@ tied_first lines m trace pages made least most is works none = record {
   most = subst (λ n. n ≤ 16384) made most;
   size = ap (λ (b : Bus). pages_of b.words) is ∙ ap (λ n. n / 512) (length_all_durable (new_image pages) ∙ length_new_image pages) ∙ whole pages ∙ made;
   registers = subst HasRegisters (sym is) (registers_first (new_image pages));
+  timeless = subst (λ (t : List Entry). IsTimeless (world_after lines t).machine) (sym none) (record { clock = refl; latest = refl; ended = refl });
 }
   where
     whole : (n : ℕ) → 512 * n / 512 ≡ n

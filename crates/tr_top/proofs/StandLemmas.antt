@@ -1,13 +1,13 @@
 -- How calls stand while entries come.
-use Rattle.std.proofs.Common.{◌≡◌, ◌≢◌, ◌⊎◌, ℕ, ◌<◌, List, [], ◌∷◌, ◌++◌, length, map, slice_index_or, cond, Bool, Bor, Option, Some, None, Contains, zero, suc, refl, sym, ap, subst, ◌∙◌, arith, eq-eqb, ne_eqb, inl, inr}
+use Rattle.std.proofs.Common.{◌≡◌, ◌≢◌, ◌⊎◌, ℕ, ◌<◌, List, [], ◌∷◌, ◌++◌, length, map, slice_index_or, cond, Bool, Option, Some, None, Contains, zero, suc, refl, sym, ap, subst, ◌∙◌, arith, eq-eqb, ne_eqb, inl, inr}
 use Rattle.std.specs.List.{slice_get}
-use Rattle.std.specs.Option.{unwrap_or, option_copied}
+use Rattle.std.specs.Option.{unwrap_or}
 use Rattle.std.proofs.lemmas.Bool.{cases_eq}
-use Rattle.tr_types.specs.Denotes.{Denotes, dir_of}
-use Rattle.tr_types.specs.Machine.{IsThread, pkru_of}
-use Rattle.tr_types.specs.Rights.{closed_pkru}
+use Rattle.tr_model.specs.Denotes.{Denotes, dir_of}
+use Rattle.bus_model.specs.Machine.{ThreadWasStarted, pkru_of}
+use Rattle.kern_model.specs.Rights.{closed_pkru}
 use Rattle.tr_types.specs.Traces.{answer_in, answer_at}
-use Rattle.tr_types.specs.World.{World, Phase, put, put_consulted, stepped}
+use Rattle.tr_model.specs.World.{World, Phase, put, put_consulted, stepped}
 use Rattle.tr_types.specs.declared.action.Action.{Action}
 use Rattle.tr_types.specs.declared.action.Answer.{Answer}
 use Rattle.tr_types.specs.declared.action.Answer.TheVariants.{Done}
@@ -17,9 +17,9 @@ use Rattle.tr_types.specs.declared.entry.Mark.{Mark}
 use Rattle.std.proofs.lemmas.List.{map-append}
 use Rattle.std.proofs.lemmas.List.Elements.{Contains-append_left}
 use Rattle.pm_words.specs.Word.{Word}
-use Rattle.tr_types.specs.Tree.{Member}
-use Rattle.tr_types.specs.Windows.{IsWindowed, FindsShut}
-use Rattle.tr_types.specs.World.{IsLegal}
+use Rattle.zo_model.specs.Tree.{Member}
+use Rattle.tr_model.specs.Windows.{IsWindowed, FindsShut}
+use Rattle.tr_model.specs.World.{IsLegal}
 use Rattle.tr_types.specs.declared.action.Answer.TheVariants.{Fault}
 use Rattle.tr_types.specs.declared.action.FaultKind.{FaultKind}
 use Rattle.tr_types.specs.declared.permission.Cred.{Cred}
@@ -67,11 +67,6 @@ answer_kept trace e asked lt = ap (λ (o : Option Entry). unwrap_or (answer_in o
 pub answer_new : (trace : List Entry) (thread now : ℕ) (m : Mark) (action : Action) (answer : Answer) → answer_to (trace ++ entry.Act thread now m action answer ∷ []) (length trace) ≡ answer
 answer_new trace thread now m action answer = ap (λ (o : Option Entry). unwrap_or (answer_in o) Done) (get_new trace (entry.Act thread now m action answer))
 
--- what a call hears that asks for its answer
-pub heard_is : (trace : List Entry) (asked : ℕ) (got : Option (Bor Answer)) (other told : Bor Answer) → option_copied got ≡ answer_at trace asked → told ≡ unwrap_or got other → other.now ≡ Done → told.now ≡ answer_to trace asked
-heard_is trace asked None other told is chosen done = ap (λ b. b.now) chosen ∙ done ∙ ap (λ o. unwrap_or o Done) is
-heard_is trace asked (Some b) other told is chosen done = ap (λ b. b.now) chosen ∙ ap (λ o. unwrap_or o Done) is
-
 -- However calls stand, the words denote the tree and the windows are right.
 pub stands_denotes : (w : World) (p : Place) (trace : List Entry) (call : Option RunningCall) → StandsAs w p trace call → Denotes w.machine.bus.words w.tree
 stands_denotes w p trace None k = ground_denotes k.ground.0 w.machine.bus.words w.tree k.ground.1
@@ -86,7 +81,7 @@ pub record SeesAll (w after : World) : Type 0 where
   pub words : after.machine.bus.words ≡ w.machine.bus.words
   pub holders : after.machine.bus.holders ≡ w.machine.bus.holders
   pub pkrus : after.machine.bus.pkrus ≡ w.machine.bus.pkrus
-  pub lives : (t : ℕ) → IsThread w.machine.bus t → IsThread after.machine.bus t
+  pub lives : (t : ℕ) → ThreadWasStarted w.machine.bus t → ThreadWasStarted after.machine.bus t
   pub tree : after.tree ≡ w.tree
   pub phase : (t : ℕ) → after.phases t ≡ w.phases t
   pub consulted : (t : ℕ) → after.consulted t ≡ w.consulted t

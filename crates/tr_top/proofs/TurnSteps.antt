@@ -1,23 +1,23 @@
 -- A turn of a call: its action or its reply may come, and calls stand after it.
 use Rattle.std.proofs.Common.{◌≡◌, ◌≢◌, ℕ, ◌*◌, ◌/◌, ◌<◌, ◌≤◌, List, [], ◌∷◌, ◌++◌, length, false, Option, Some, None, refl, sym, ap, subst, ◌∙◌, arith}
 use Rattle.zo_layout.specs.Layout.{page_at, word_of, root_control, root_page, coffer_table, committed_word}
-use Rattle.tr_types.specs.KernelView.{pages_of}
+use Rattle.kern_model.specs.KernelView.{pages_of}
 use Rattle.pm_words.specs.Word.{Word}
 use Rattle.pm_words.specs.Memory.{all_durable, word_at, HasPages}
 use Rattle.pm_words.proofs.WordLemmas.{has_pages, length_all_durable, word_at_all_durable}
-use Rattle.tr_types.specs.NewImage.{new_image, coffer_word}
-use Rattle.tr_types.specs.RootCoffer.{IsRootAlone}
-use Rattle.tr_types.specs.KernelRules.{IsFirstFault}
-use Rattle.tr_types.proofs.NewKernel.{new_committed, new_is_sound, new_tables}
-use Rattle.tr_types.proofs.RootLemmas.{idle_word}
+use Rattle.kern_model.specs.NewImage.{new_image, coffer_word}
+use Rattle.tr_model.specs.RootCoffer.{IsRootAlone}
+use Rattle.kern_model.specs.KernelRules.{IsFirstFault}
+use Rattle.kern_model.proofs.NewKernel.{new_committed, new_is_sound, new_tables}
+use Rattle.kern_model.proofs.Idle.{idle_word}
 use Rattle.kern_view.proofs.FaultLemmas.{none_in_sound}
 use Rattle.bus_machine.specs.Opening.{bus_opened, OpensAsIs}
-use Rattle.tr_types.specs.Tree.{new_tree}
+use Rattle.zo_model.specs.Tree.{new_tree}
 use Rattle.zo_ops.proofs.NewLaws.{laid_new, roles_in_new}
-use Rattle.tr_types.specs.Denotes.{dir_of}
-use Rattle.tr_types.specs.Machine.{Bus, Answers, IsThread, HasRegisters, bus_over}
-use Rattle.tr_types.specs.Marks.{mark_of}
-use Rattle.tr_types.specs.World.{World, Idle, Runs, NotYet, MayBegin, stepped}
+use Rattle.tr_model.specs.Denotes.{dir_of}
+use Rattle.bus_model.specs.Machine.{Bus, Answers, ThreadWasStarted, HasRegisters, bus_over}
+use Rattle.tr_model.specs.Marks.{mark_of}
+use Rattle.tr_model.specs.World.{World, Idle, Runs, NotYet, MayBegin, stepped}
 use Rattle.tr_types.specs.declared.action.Action.{Action}
 use Rattle.tr_types.specs.declared.action.Answer.{Answer}
 use Rattle.tr_types.specs.declared.command.Command.{Command}
@@ -26,10 +26,12 @@ use Rattle.tr_types.specs.declared.entry.Entry.{Entry}
 use Rattle.tr_types.specs.declared.entry.Entry.TheVariants as entry
 use Rattle.tr_types.specs.declared.entry.Mark.{Mark}
 use Rattle.tr_types.specs.declared.entry.Mark.TheVariants as mark
-use Rattle.tr_types.proofs.MachineLemmas.{pages_acted, register_kept, closed_first}
-use Rattle.tr_dispatch.specs.Sessions.{IsGrounded, SessionKnows, SessionActs, SessionEnds, SessionStepsFrom, BeginsAt}
+use Rattle.bus_model.proofs.MachineLemmas.{pages_acted, register_kept, closed_first}
+use Rattle.tr_dispatch.specs.Sessions.{IsGrounded, KnowsAt, SessionKnows, SessionActs, SessionEnds, SessionStepsFrom, BeginsAt, is_over}
 use Rattle.tr_dispatch.specs.declared.session.Session.{Session}
 use Rattle.tr_dispatch.specs.declared.session.SessionStep.TheVariants as step
+use Rattle.tr_dispatch.specs.declared.session.Stage.{Stage}
+use Rattle.tr_dispatch.specs.declared.session.Stage.TheVariants as stage
 use Rattle.tr_dispatch.proofs.SessionLaws.{knows_windowed, bare_windowed}
 use Rattle.zo_ops.proofs.LoadSteps.{ground_denotes}
 use Rattle.bus_machine.specs.View.{MachineView}
@@ -40,7 +42,7 @@ use Rattle.tr_top.specs.Run.{world_after, place_after, pages_made}
 use Rattle.tr_top.specs.Running.{AreDue, IsTied, IsAside, IsSound, IsQuiet, IsAtTurn, IsCallGiven, Stands, StandsAs, answer_to}
 use Rattle.tr_top.proofs.PlaceLemmas.{before_running, before_dir}
 use Rattle.tr_top.proofs.RunLemmas.{length_more, length_new_image}
-use Rattle.tr_top.proofs.EntryLemmas.{Adds, still_adds}
+use Rattle.tr_top.proofs.EntryLemmas.{Adds, still_adds, thread_lives}
 use Rattle.tr_top.proofs.LineLemmas.{behind_running, behind_dir}
 use Rattle.tr_top.proofs.StandLemmas.{put_same, put_other, all_aside, answer_new, stands_sound, stands_added}
 
@@ -91,8 +93,8 @@ aside_acted w thread u m action answer ne a = record {
 
 -- An action.
 module _ (w : World) (p : Place) (trace : List Entry) (call next : RunningCall) (m : Mark) (action : Action) (k : IsAtTurn w p trace call)
-    (thread : next.session.thread ≡ call.session.thread) (command : next.session.command.now ≡ call.session.command.now)
-    (acts : SessionActs (SessionKnows next.session) next.session.thread next.session.command.now m action w) where
+    (thread : next.session.thread ≡ call.session.thread) (command : next.session.command ≡ call.session.command)
+    (acts : SessionActs (SessionKnows next.session) next.session.thread next.session.command m action w) where
   abbrev e : Answer → Entry
   e answer = entry.Act next.session.thread 0 m action answer
 
@@ -102,7 +104,7 @@ module _ (w : World) (p : Place) (trace : List Entry) (call next : RunningCall) 
   pub act_follows : (answer : Answer) → AreDue p.turns → MayFollow p (e answer)
   act_follows answer due = due_follows p.turns p (e answer) refl due
       (subst (λ (r : Option Running). IsOfCall p.dir r (e answer)) (sym k.running)
-      (thread, refl, acts.marked ∙ ap (λ (c : Command). mark_of (dir_of w.machine.bus.words) c action) command ∙ ap (λ (d : ℕ). mark_of d call.session.command.now action) (sym k.dir)))
+      (thread, refl, acts.marked ∙ ap (λ (c : Command). mark_of (dir_of w.machine.bus.words) c action) command ∙ ap (λ (d : ℕ). mark_of d call.session.command action) (sym k.dir)))
 
   pub act_sound : (answer : Answer) → Answers w.machine.bus next.session.thread 0 action answer → IsSound w (e answer)
   act_sound answer is =
@@ -157,7 +159,7 @@ module _ (w : World) (p : Place) (trace : List Entry) (call : RunningCall) (next
 -- where no call runs, the words are the ground of the next one
 pub quiet_free : (w : World) (p : Place) (trace : List Entry) (call : Option RunningCall) → StandsAs w p trace call → p.running ≡ None → IsQuiet w p
 quiet_free w p trace None k free = k
-quiet_free w p trace (Some call) k free = let clash : None ≡ call_of call.session.thread call.session.command.now = sym free ∙ k.running in absurd (cc)
+quiet_free w p trace (Some call) k free = let clash : None ≡ call_of call.session.thread call.session.command = sym free ∙ k.running in absurd (cc)
 
 -- A call that begins.
 pub call_sound : (w : World) (p : Place) (thread : ℕ) (command : Command) → IsQuiet w p → IsSound w (entry.Call thread command)
@@ -168,7 +170,7 @@ call_sound w p thread command k = record {
 }
 
 module _ (lines : List Line) (m : MachineView) (trace : List Entry) (thread : ℕ) (command : Command) (session : Session) (tied : IsTied lines m trace) (k : IsQuiet (world_after lines trace) (place_after lines trace)) (given : IsCallGiven lines trace thread command)
-    (thread_is : session.thread ≡ thread) (command_is : session.command.now ≡ command) (begins : (first : Answer) (w : World) → BeginsAt thread command w → SessionKnows session first w) where
+    (thread_is : session.thread ≡ thread) (command_is : session.command ≡ command) (begins : (first : Answer) (w : World) → BeginsAt thread command w → SessionKnows session first w) where
   abbrev w : World
   w = world_after lines trace
 
@@ -197,26 +199,51 @@ module _ (lines : List Line) (m : MachineView) (trace : List Entry) (thread : �
     dir = behind_dir p.left (Some (record { thread = thread; command = command })) p.dir ∙ given.dir ∙ ap (λ (n : ℕ). page_at (root_page n)) (sym tied.size ∙ ap (λ (b : Bus). pages_of b.words) tied.bus);
   }
 
--- What a call gives with the answer that it was told.
-pub turn_acts : (w : World) (trace : List Entry) (call : RunningCall) (next : Session) (m : Mark) (action : Action) (told : Answer) → told ≡ answer_to trace call.asked → SessionStepsFrom call.session told next (step.Act m action) → SessionKnows call.session (answer_to trace call.asked) w → SessionActs (SessionKnows next) next.thread next.command.now m action w
-turn_acts w trace call next m action told heard steps knows = steps w (subst (λ (a : Answer). SessionKnows call.session a w) (sym heard) knows)
+-- What a session knows as it begins.
+pub begins_at : (session : Session) (thread : ℕ) (command : Command) → session.thread ≡ thread → session.command ≡ command → session.stage ≡ stage.Begin → (first : Answer) (w : World) → BeginsAt thread command w → SessionKnows session first w
+begins_at session thread command threads commands stages first w b =
+    subst (λ (t : ℕ). KnowsAt t session.command session.stage first w) (sym threads)
+    (subst (λ (c : Command). KnowsAt thread c session.stage first w) (sym commands)
+    (subst (λ (s : Stage). KnowsAt thread command s first w) (sym stages) (b.sits, (b.bare, b.grounded, b.phase_is))))
 
-pub turn_ends : (w : World) (trace : List Entry) (call : RunningCall) (next : Session) (reply : Reply) (told : Answer) → told ≡ answer_to trace call.asked → SessionStepsFrom call.session told next (step.Over reply) → SessionKnows call.session (answer_to trace call.asked) w → SessionEnds next.thread reply w
-turn_ends w trace call next reply told heard steps knows = steps w (subst (λ (a : Answer). SessionKnows call.session a w) (sym heard) knows)
+-- a session that knows something isn't over
+stage_runs : (thread : ℕ) (command : Command) (s : Stage) (answer : Answer) (w : World) → KnowsAt thread command s answer w → is_over s ≡ false
+stage_runs thread command stage.Begin answer w k = refl
+stage_runs thread command stage.Finding answer w k = refl
+stage_runs thread command stage.Mapping answer w k = refl
+stage_runs thread command (stage.Working call) answer w k = refl
+stage_runs thread command (stage.Closing reply) answer w k = refl
+stage_runs thread command (stage.Ending reply) answer w k = refl
+stage_runs thread command stage.Over answer w k = absurd k.1
+
+pub session_runs : (session : Session) (answer : Answer) (w : World) → SessionKnows session answer w → is_over session.stage ≡ false
+session_runs session answer w k = stage_runs session.thread session.command session.stage answer w k
+
+-- What a call gives with the answer that it was told.
+pub turn_acts : (w : World) (trace : List Entry) (call : RunningCall) (next : Session) (m : Mark) (action : Action) (told : Answer) → told ≡ answer_to trace call.asked → SessionStepsFrom call.session told next (step.Act action m) → next.thread ≡ call.session.thread → next.command ≡ call.session.command → SessionKnows call.session (answer_to trace call.asked) w
+    → SessionActs (SessionKnows next) next.thread next.command m action w
+turn_acts w trace call next m action told heard steps threads commands knows =
+    subst (λ (t : ℕ). SessionActs (KnowsAt t next.command next.stage) t next.command m action w) (sym threads)
+    (subst (λ (c : Command). SessionActs (KnowsAt call.session.thread c next.stage) call.session.thread c m action w) (sym commands)
+    (steps w (subst (λ (a : Answer). SessionKnows call.session a w) (sym heard) knows)))
+
+pub turn_ends : (w : World) (trace : List Entry) (call : RunningCall) (next : Session) (reply : Reply) (told : Answer) → told ≡ answer_to trace call.asked → SessionStepsFrom call.session told next (step.Over reply) → next.thread ≡ call.session.thread → SessionKnows call.session (answer_to trace call.asked) w → SessionEnds next.thread reply w
+turn_ends w trace call next reply told heard steps threads knows =
+    subst (λ (t : ℕ). SessionEnds t reply w) (sym threads) (steps w (subst (λ (a : Answer). SessionKnows call.session a w) (sym heard) knows))
 
 -- The reply may come, and leaves no call.
 pub reply_adds : (lines : List Line) (m : MachineView) (trace : List Entry) (call : RunningCall) (next : Session) (t : ℕ) (reply : Reply) → IsTied lines m trace → IsAtTurn (world_after lines trace) (place_after lines trace) trace call → t ≡ next.thread → next.thread ≡ call.session.thread → SessionEnds next.thread reply (world_after lines trace) → AreDue (place_after lines trace).turns
     → Adds lines m trace (entry.Reply t reply)
 reply_adds lines m trace call next t reply tied k same thread ends due = subst (λ (u : ℕ). Adds lines m trace (entry.Reply u reply)) (sym same) (still_adds lines m trace (entry.Reply next.thread reply) tied
     (reply_follows (world_after lines trace) (place_after lines trace) trace call next reply k thread ends due)
-    (subst (λ (u : ℕ). IsThread (world_after lines trace).machine.bus u) (sym thread) k.knows.0.lives)
+    (thread_lives (world_after lines trace).machine next.thread tied.timeless (subst (λ (u : ℕ). ThreadWasStarted (world_after lines trace).machine.bus u) (sym thread) k.knows.0.lives))
     (reply_sound (world_after lines trace) (place_after lines trace) trace call next reply k thread ends) refl)
 
 pub reply_done : (lines : List Line) (trace new : List Entry) (call : RunningCall) (next : Session) (t : ℕ) (reply : Reply) → IsAtTurn (world_after lines trace) (place_after lines trace) trace call → t ≡ next.thread → next.thread ≡ call.session.thread → SessionEnds next.thread reply (world_after lines trace) → new ≡ trace ++ entry.Reply t reply ∷ [] → Stands lines new None
 reply_done lines trace new call next t reply k same thread ends is = stands_added lines trace new (entry.Reply next.thread reply) None (is ∙ ap (λ (u : ℕ). trace ++ entry.Reply u reply ∷ []) same)
     (reply_stands (world_after lines trace) (place_after lines trace) trace call next reply k thread ends)
 
-pub call_done : (lines : List Line) (m : MachineView) (trace new : List Entry) (thread asked : ℕ) (command told : Command) (session : Session) → IsTied lines m trace → IsQuiet (world_after lines trace) (place_after lines trace) → IsCallGiven lines trace thread command → session.thread ≡ thread → session.command.now ≡ command → ((first : Answer) (w : World) → BeginsAt thread command w → SessionKnows session first w)
+pub call_done : (lines : List Line) (m : MachineView) (trace new : List Entry) (thread asked : ℕ) (command told : Command) (session : Session) → IsTied lines m trace → IsQuiet (world_after lines trace) (place_after lines trace) → IsCallGiven lines trace thread command → session.thread ≡ thread → session.command ≡ command → ((first : Answer) (w : World) → BeginsAt thread command w → SessionKnows session first w)
     → told ≡ command → asked ≡ length trace → new ≡ trace ++ entry.Call thread told ∷ [] → Stands lines new (Some (record { session = session; asked = asked }))
 call_done lines m trace new thread asked command told session tied k given thread_is command_is begins same at is =
     let from_now : Stands lines new (Some (record { session = session; asked = length trace })) = stands_added lines trace new (entry.Call thread command) (Some (record { session = session; asked = length trace })) (is ∙ ap (λ (c : Command). trace ++ entry.Call thread c ∷ []) same)

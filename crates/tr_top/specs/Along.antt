@@ -5,7 +5,7 @@
 use Rattle.std.specs.Prelude.{◌≡◌, ℕ, List, [], ◌∷◌, Bool, false, Option, Some, None, if◌then◌else◌, ◌==◌}
 use Rattle.tr_types.specs.Fold.{Each, state_after}
 use Rattle.zo_layout.specs.Layout.{page_at, root_page}
-use Rattle.tr_types.specs.Marks.{mark_of}
+use Rattle.tr_model.specs.Marks.{mark_of}
 use Rattle.tr_types.specs.declared.command.Command.{Command}
 use Rattle.tr_types.specs.declared.entry.Entry.{Entry}
 use Rattle.tr_types.specs.declared.entry.Entry.TheVariants as entry

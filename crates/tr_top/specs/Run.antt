@@ -4,10 +4,10 @@
 use Rattle.std.specs.Prelude.{◌≡◌, ℕ, ◌≤◌, List, [], ◌∷◌, length, false}
 use Rattle.pm_words.specs.Memory.{present_values}
 use Rattle.tr_types.specs.Fold.{Each, state_after}
-use Rattle.tr_types.specs.NewImage.{new_image}
-use Rattle.tr_types.specs.Denotes.{Denotes}
-use Rattle.tr_types.specs.World.{World, world_of, stepped, MayCome, IsLegal}
-use Rattle.tr_types.specs.Windows.{LeavesWindows, IsConfined}
+use Rattle.kern_model.specs.NewImage.{new_image}
+use Rattle.tr_model.specs.Denotes.{Denotes}
+use Rattle.tr_model.specs.World.{World, world_of, stepped, MayCome, IsLegal}
+use Rattle.tr_model.specs.Windows.{LeavesWindows, IsConfined}
 use Rattle.tr_types.specs.declared.entry.Entry.{Entry}
 use Rattle.tr_script.specs.declared.script.Line.{Line}
 use Rattle.tr_script.specs.declared.script.Line.TheVariants.{Mkfs}

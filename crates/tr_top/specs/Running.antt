@@ -2,16 +2,16 @@
 use Rattle.std.specs.Prelude.{◌≡◌, ◌≢◌, ℕ, ◌<◌, ◌≤◌, List, [], ◌∷◌, ◌++◌, length, map, Option, Some, None, unwrap_or, true, false, Ok, Err}
 use Rattle.std.specs.declared.result.Result.{Result}
 use Rattle.std.specs.Io.KnownBytes.{Appends}
-use Rattle.tr_types.specs.Denotes.{dir_of}
+use Rattle.tr_model.specs.Denotes.{dir_of}
 use Rattle.tr_types.specs.Fold.{state_after}
-use Rattle.tr_types.specs.KernelView.{pages_of}
+use Rattle.kern_model.specs.KernelView.{pages_of}
 use Rattle.zo_layout.specs.Layout.{page_at, root_page}
-use Rattle.tr_types.specs.Commands.{IsCommand}
-use Rattle.tr_types.specs.Machine.{Machine, IsThread, HasRegisters, bus_over, pkru_of}
-use Rattle.tr_types.specs.Rights.{closed_pkru}
+use Rattle.zo_model.specs.Commands.{IsCommand}
+use Rattle.bus_model.specs.Machine.{Machine, ThreadWasStarted, HasRegisters, bus_over, pkru_of}
+use Rattle.kern_model.specs.Rights.{closed_pkru}
 use Rattle.tr_types.specs.Traces.{answer_at}
-use Rattle.tr_types.specs.Windows.{LeavesWindows}
-use Rattle.tr_types.specs.World.{World, Idle, stepped}
+use Rattle.tr_model.specs.Windows.{LeavesWindows}
+use Rattle.tr_model.specs.World.{World, Idle, stepped}
 use Rattle.tr_types.specs.declared.action.Answer.{Answer}
 use Rattle.tr_types.specs.declared.action.Answer.TheVariants.{Done}
 use Rattle.tr_types.specs.declared.command.Command.{Command}
@@ -67,6 +67,12 @@ pub record IsSound (w : World) (e : Entry) : Type 0 where
   pub windows : LeavesWindows w e
   pub unlost : (stepped w e).lost ≡ w.lost
 
+-- no tick has passed, and no process has ended, since no line asks for either
+pub record IsTimeless (m : Machine) : Type 0 where
+  pub clock : m.clock ≡ 0
+  pub latest : m.latest ≡ 0
+  pub ended : m.ended ≡ []
+
 -- the machine is that of the trace so far, and works
 pub record IsTied (lines : List Line) (m : MachineView) (trace : List Entry) : Type 0 where
   pub run : IsRun lines trace
@@ -76,6 +82,7 @@ pub record IsTied (lines : List Line) (m : MachineView) (trace : List Entry) : T
   pub most : pages_made lines ≤ 16384
   pub size : pages_of m.bus.words ≡ pages_made lines
   pub registers : HasRegisters m.bus
+  pub timeless : IsTimeless (world_after lines trace).machine
 
 -- a thread that has no call, and whose window is closed
 pub record IsAside (w : World) (thread : ℕ) : Type 0 where
@@ -99,7 +106,7 @@ pub record IsAtTurn (w : World) (p : Place) (trace : List Entry) (call : Running
   pub asked : call.asked < length trace
   pub knows : SessionKnows call.session (answer_to trace call.asked) w
   pub others : (t : ℕ) → t ≢ call.session.thread → IsAside w t
-  pub running : p.running ≡ Some (record { thread = call.session.thread; command = call.session.command.now })
+  pub running : p.running ≡ Some (record { thread = call.session.thread; command = call.session.command })
   pub dir : p.dir ≡ dir_of w.machine.bus.words
 
 abbrev pub StandsAs : World → Place → List Entry → Option RunningCall → Type 0
@@ -160,7 +167,7 @@ pub record IsNextLine (lines : List Line) (trace : List Entry) (line : Line) : T
 -- a thread that was started is given a command, and no call runs
 pub record IsCallGiven (lines : List Line) (trace : List Entry) (thread : ℕ) (command : Command) : Type 0 where
   pub valid : IsCommand command
-  pub lives : IsThread (world_after lines trace).machine.bus thread
+  pub lives : ThreadWasStarted (world_after lines trace).machine.bus thread
   pub follows : MayFollow (place_after lines trace) (entry.Call thread command)
   pub free : (place_after lines trace).running ≡ None
   pub dir : (place_after lines trace).dir ≡ page_at (root_page (pages_made lines))

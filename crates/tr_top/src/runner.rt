@@ -3,10 +3,10 @@ ghost use Rattle.std.specs.Prelude.{◌≡◌, ◌+◌, ◌≤◌, ◌<◌, List
 ghost use Rattle.pm_words.specs.Memory.{present_values};
 ghost use Rattle.tr_types.specs.declared.action.Answer.{Answer};
 ghost use Rattle.tr_types.specs.declared.entry.Entry.TheVariants as entry;
-ghost use Rattle.tr_types.specs.Commands.{IsCommand};
+ghost use Rattle.zo_model.specs.Commands.{IsCommand};
 ghost use Rattle.tr_types.specs.Fold.{Each};
-ghost use Rattle.tr_types.specs.Machine.{IsThread, IsBuilt, Answers};
-ghost use Rattle.tr_types.specs.World.{MayCome, stepped};
+ghost use Rattle.bus_model.specs.Machine.{IsAction, Answers};
+ghost use Rattle.tr_model.specs.World.{MayCome, stepped};
 ghost use Rattle.tr_script.specs.Grammar.{MayStand, declared, nothing_declared};
 ghost use Rattle.tr_script.specs.declared.script.Line.{Line};
 ghost use Rattle.tr_script.specs.declared.script.Line.TheVariants as line;
@@ -18,16 +18,17 @@ use crate::log::{Log, Stop};
 use bus_machine::{Machine, MountFault, open_law};
 use kern_journal::new_image;
 use pm_words::Image;
+use sqlite_items::Boxed;
 use std::alloc::{AllocError, Global};
 use tr_dispatch::{Session, SessionStep};
 use tr_outside::Sink;
 use tr_script::{Line, Script};
-use tr_types::{Action, Answer, Command, Cred, Entry, Mark, Trace};
+use tr_types::{Action, Command, Cred, Entry, Mark, Trace};
 
 /// A call that runs.
 #[derive(Debug, Drop)]
-pub(crate) struct RunningCall<'a> {
-    session: Session<'a>,
+pub(crate) struct RunningCall {
+    session: Session,
     /// Where in the trace the entry stands whose answer the call gets next.
     asked: usize,
 }
@@ -47,7 +48,7 @@ pub(crate) struct Runner<'a> {
     script: &'a Script,
     machine: Machine,
     log: Log,
-    running: Option<RunningCall<'a>>,
+    running: Option<RunningCall>,
 }
 
 impl<'a> Runner<'a> {
@@ -111,7 +112,7 @@ impl<'a> Runner<'a> {
     {
         match line {
             Line::Mkfs(pages) => self.make_image(out, *pages),
-            Line::Process { process, cred } => self.start_process(out, *process, *cred),
+            Line::Process { process, cred } => self.start_process(out, *process, *cred.get()),
             Line::Thread { thread, process } => self.start_thread(out, *thread, *process),
             Line::Call { thread, command } => self.begin_call(out, *thread, command),
             Line::Do { thread, command } => {
@@ -170,8 +171,15 @@ impl<'a> Runner<'a> {
         ensures passed { OnOk result (Passes self.old.script.now self.old.log.trace self.new.log.trace (line.Process process cred)) }
     {
         self.log.check_room()?;
+        let noted = Boxed::new(self.alloc, cred)?;
         self.machine.start_process(process, cred)?;
-        self.log.add(out, Entry::Process { process, cred })
+        self.log.add(
+            out,
+            Entry::Process {
+                process,
+                cred: noted,
+            },
+        )
     }
 
     fn start_thread<O: Sink>(&mut self, out: &mut O, thread: u16, process: u8) -> Result<(), Stop>
@@ -220,7 +228,7 @@ impl<'a> Runner<'a> {
         &mut self,
         out: &mut O,
         thread: u16,
-        command: &'a Command,
+        command: &Command,
     ) -> Result<(), Stop>
         requires tied { IsTied self.old.script.now self.old.machine self.old.log.trace }
         requires stands { Stands self.old.script.now self.old.log.trace self.old.running }
@@ -233,6 +241,7 @@ impl<'a> Runner<'a> {
         ensures added { OnOk result (self.new.log.trace ≡ self.old.log.trace ++ entry.Call thread command.now ∷ []) }
     {
         let told = command.copy(self.alloc)?;
+        let kept = command.copy(self.alloc)?;
         let asked = self.log.trace.len();
         self.give(
             out,
@@ -242,14 +251,14 @@ impl<'a> Runner<'a> {
             },
         )?;
         self.running = Some(RunningCall {
-            session: Session::begin(thread, command),
+            session: Session::begin(thread, kept),
             asked,
         });
         Ok(())
     }
 
     // Takes the call that runs, where it is this thread's.
-    fn take_call(&mut self, thread: u16) -> Option<RunningCall<'a>>
+    fn take_call(&mut self, thread: u16) -> Option<RunningCall>
         ensures same { (self.new.script.now ≡ self.old.script.now) × (self.new.machine ≡ self.old.machine) × (self.new.log ≡ self.old.log) }
         ensures taken { MatchOption result
             ((IsOfThread thread self.old.running → ⊥) × (self.new.running ≡ self.old.running))
@@ -311,13 +320,13 @@ impl<'a> Runner<'a> {
     }
 
     // Makes one turn of a call: an action, or the reply.
-    fn turn<O: Sink>(&mut self, out: &mut O, call: &mut RunningCall<'a>) -> Result<Turned, Stop>
+    fn turn<O: Sink>(&mut self, out: &mut O, call: &mut RunningCall) -> Result<Turned, Stop>
         requires tied { IsTied self.old.script.now self.old.machine self.old.log.trace }
         requires stands { Stands self.old.script.now self.old.log.trace (Some call.old) }
         requires due { AreDue (place_after self.old.script.now self.old.log.trace).turns }
         ensures same { self.new.script.now ≡ self.old.script.now }
         ensures running { self.new.running ≡ self.old.running }
-        ensures call { (call.new.session.thread ≡ call.old.session.thread) × (call.new.session.command.now ≡ call.old.session.command.now) }
+        ensures call { (call.new.session.thread ≡ call.old.session.thread) × (call.new.session.command ≡ call.old.session.command) }
         ensures goes { Goes self.old.script.now self.old.log.trace self.new.log.trace
             (O.written out.old) (O.written out.new) (O.faults out.old) (O.faults out.new) result }
         ensures tied { OnOk result (IsTied self.old.script.now self.new.machine self.new.log.trace) }
@@ -331,14 +340,10 @@ impl<'a> Runner<'a> {
         ensures length { OnOk result (length self.new.log.trace ≡ length self.old.log.trace + 1) }
     {
         self.log.check_room()?;
-        let answer = self
-            .log
-            .trace
-            .answer_at(call.asked)
-            .unwrap_or(&Answer::Done);
+        let answer = self.log.trace.answer_at(call.asked);
         let thread = call.session.thread();
-        match call.session.next(self.alloc, answer)? {
-            SessionStep::Act(mark, action) => {
+        match call.session.next(self.alloc, answer, 0)? {
+            SessionStep::Act(action, mark) => {
                 call.asked = self.log.trace.len();
                 self.act(out, thread, mark, action)?;
                 Ok(Turned::Acted(mark))
@@ -360,7 +365,7 @@ impl<'a> Runner<'a> {
     ) -> Result<(), Stop>
         requires tied { IsTied self.old.script.now self.old.machine self.old.log.trace }
         requires room { length self.old.log.trace < 4194304 }
-        requires built { IsBuilt action }
+        requires built { IsAction action }
         requires follows { (answer : Answer) → MayFollow (place_after self.old.script.now self.old.log.trace) (entry.Act thread 0 mark action answer) }
         requires sound { (answer : Answer) → Answers (world_after self.old.script.now self.old.log.trace).machine.bus thread 0 action answer →
             IsSound (world_after self.old.script.now self.old.log.trace) (entry.Act thread 0 mark action answer) }

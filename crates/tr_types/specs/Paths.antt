@@ -1,8 +1,19 @@
 -- Paths as texts: what is one, and which path lies under another.
-use Rattle.std.specs.Prelude.{ℕ, List, [], ◌∷◌, ◌++◌, length, Bool, false, not, ◌&&◌, ◌||◌, ◌==◌, nat_le, nat_eq, codes, if◌then◌else◌}
+use Rattle.std.specs.Prelude.{filter, ℕ, List, [], ◌∷◌, ◌++◌, length, Bool, false, not, ◌&&◌, ◌||◌, ◌==◌, nat_le, nat_eq, codes, if◌then◌else◌}
 use Rattle.std.specs.List.{list_all, starts_with, before_last}
 use Rattle.std.specs.Cmp.Lexicographic.{pointwise}
-use Rattle.tr_types.specs.Tree.{parts_of}
+
+-- The names of a path: what stands between its slashes. `/` has none.
+abbrev pub in_first : ℕ → List (List ℕ) → List (List ℕ)
+in_first byte [] = (byte ∷ []) ∷ []
+in_first byte (part ∷ parts) = (byte ∷ part) ∷ parts
+
+abbrev pub parts_of : List ℕ → List (List ℕ)
+parts_of [] = [] ∷ []
+parts_of (byte ∷ path) = if byte == 47 then [] ∷ parts_of path else in_first byte (parts_of path)
+
+abbrev pub names_of : List ℕ → List (List ℕ)
+names_of path = filter (λ part. not (length part == 0)) (parts_of path)
 
 abbrev pub same_text : List ℕ → List ℕ → Bool
 same_text = pointwise nat_eq

@@ -73,7 +73,7 @@ pub enum Entry {
     Mkfs(u32),
     Process {
         process: u8,
-        cred: Cred,
+        cred: Boxed<Cred>,
     },
     Thread {
         thread: u16,

@@ -5,7 +5,6 @@
 mod action;
 mod command;
 mod entry;
-mod inner;
 mod kernel_call;
 mod permission;
 mod rule;
@@ -14,8 +13,7 @@ mod text;
 pub use action::{Action, Answer, FaultKind};
 pub use command::{Command, Kind, Reply};
 pub use entry::{CofferList, CofferRow, CofferState, Entry, Mark, Pick, Trace, Why};
-pub use inner::Inner;
 pub use kernel_call::{FoundAt, Holder, Kcall, KernAnswer, Mapped};
-pub use permission::{Cred, Perm, Right, refuses};
+pub use permission::{Cred, Groups, Perm, Right, refuses};
 pub use rule::Rule;
 pub use text::{Bytes, Name, Names, Pages, Path};

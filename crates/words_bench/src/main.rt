@@ -1,8 +1,9 @@
 //! Stores, flushes and fences on one line of a memory of which many other words are pending, so that their cost can be
 //! measured.
 //!
-//! Its words are `store`, `flush` or `round`, how many words are pending, at most 500,000, and how often it is done. A
-//! round is a store, a flush and a fence.
+//! Its words are `store`, `flush`, `round` or `page`, how many words are pending, at most 500,000, and how often it is
+//! done. A round is a store, a flush and a fence. A page is 512 stores, one to each word of the first page, 64 flushes
+//! and a fence.
 #![tactic(auto)]
 
 ghost use Rattle.std.specs.Prelude.{◌≡◌, ◌<◌, ◌≤◌, length, IfSome, IfOk};
@@ -19,6 +20,8 @@ const MOST: u32 = 500_000;
 
 const LINE_WORDS: u32 = 8;
 
+const PAGE_WORDS: u32 = 512;
+
 const THREAD: u16 = 0;
 
 /// What is measured.
@@ -27,6 +30,7 @@ enum Work {
     Store,
     Flush,
     Round,
+    Page,
 }
 
 fn main(rt: HostRuntime) -> io::Result<ExitCode> {
@@ -35,7 +39,7 @@ fn main(rt: HostRuntime) -> io::Result<ExitCode> {
         words.push(word)?;
     }
     let Some((work, pending, times)) = task_of(&words) else {
-        eprintln!(rt; "usage: words_bench store|flush|round PENDING TIMES")?;
+        eprintln!(rt; "usage: words_bench store|flush|round|page PENDING TIMES")?;
         return Ok(ExitCode::from(2));
     };
     let mut memory = Words::blank(rt.alloc(), PAGES)?;
@@ -53,6 +57,7 @@ fn task_of(words: &[String]) -> Option<(Work, u32, u32)>
         "store" => Work::Store,
         "flush" => Work::Flush,
         "round" => Work::Round,
+        "page" => Work::Page,
         _ => return None,
     };
     let pending = words.get(1)?.parse::<u32>().ok()?;
@@ -100,6 +105,33 @@ fn step(memory: &mut Words, work: Work, time: u32) -> Result<(), NoMemory>
             memory.flush(THREAD, 0)?;
             memory.fence(THREAD);
         }
+        Work::Page => {
+            store_page(memory, u64::from(time))?;
+            flush_page(memory)?;
+            memory.fence(THREAD);
+        }
+    }
+    Ok(())
+}
+
+// Stores a value to each word of the first page.
+fn store_page(memory: &mut Words, value: u64) -> Result<(), NoMemory>
+    requires words { length memory.old ≡ 524288 }
+    ensures len { length memory.new ≡ 524288 }
+{
+    for place in 0..PAGE_WORDS {
+        memory.store(8 * u64::from(place), value)?;
+    }
+    Ok(())
+}
+
+// Flushes each line of the first page.
+fn flush_page(memory: &mut Words) -> Result<(), NoMemory>
+    requires words { length memory.old ≡ 524288 }
+    ensures len { length memory.new ≡ 524288 }
+{
+    for line in 0..PAGE_WORDS / LINE_WORDS {
+        memory.flush(THREAD, 64 * u64::from(line))?;
     }
     Ok(())
 }

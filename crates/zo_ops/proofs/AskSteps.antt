@@ -2,11 +2,12 @@
 use Rattle.std.proofs.Common.{◌≡◌, ℕ, ◌<◌, ◌≤◌, List, [], ◌∷◌, length, take, Contains, true, refl, sym, ap, subst, ◌∙◌, arith}
 use Rattle.pm_words.specs.Word.{Word}
 use Rattle.zo_layout.specs.Layout.{bucket_of, page_at, root_control, root_page}
-use Rattle.tr_types.specs.KernelView.{pages_of, free_pages}
-use Rattle.tr_types.specs.RootCoffer.{IsGivenTo}
-use Rattle.tr_types.specs.Tree.{Member}
-use Rattle.tr_types.specs.Denotes.{value, Chain}
-use Rattle.tr_types.specs.World.{Phase, Runs, NotYet}
+use Rattle.kern_model.specs.KernelView.{pages_of, free_pages}
+use Rattle.kern_model.specs.Given.{IsGivenTo}
+use Rattle.zo_model.specs.Tree.{Member}
+use Rattle.kern_model.specs.KernelView.{value}
+use Rattle.tr_model.specs.Denotes.{Chain}
+use Rattle.tr_model.specs.World.{Phase, Runs, NotYet}
 use Rattle.tr_types.specs.declared.action.Action.TheVariants.{Kernel}
 use Rattle.tr_types.specs.declared.action.Answer.{Answer}
 use Rattle.tr_types.specs.declared.action.Answer.TheVariants.{Word as WordIs, Done, Fault, Kern}
@@ -20,7 +21,7 @@ use Rattle.zo_ops.specs.declared.call.Next.TheVariants as next
 use Rattle.zo_ops.specs.declared.call.Stage.TheVariants as stage
 use Rattle.zo_ops.specs.declared.plan.Spot.{Spot}
 use Rattle.zo_ops.specs.declared.plan.Spot.TheVariants.{Free, Fresh}
-use Rattle.tr_types.specs.Commands.{IsCommand}
+use Rattle.zo_model.specs.Commands.{IsCommand}
 use Rattle.zo_ops.specs.Laid.{IsLaid, IsFresh, entries_in}
 use Rattle.zo_ops.specs.Permitted.{Answers, Leaves}
 use Rattle.zo_ops.specs.Knows.{Ground, Links, Goes, NextGives, StageKnows, IsSpot, AreDrawn, name_of, spot_pages}

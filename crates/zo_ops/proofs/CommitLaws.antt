@@ -5,8 +5,9 @@ use Rattle.pm_words.specs.Word.{Word}
 use Rattle.pm_words.specs.Memory.{store_at, IsAddress, IsPages}
 use Rattle.pm_words.proofs.WordLemmas.{length_store_at}
 use Rattle.zo_layout.specs.Layout.{page_at, owner_word, root_control, root_page, bucket_head, bucket_of, first_free_entry, pool_head, word_of}
-use Rattle.tr_types.specs.KernelView.{pages_of, owner_of}
-use Rattle.tr_types.specs.Denotes.{value, control_of, dir_of, IsCofferPage, Chain}
+use Rattle.kern_model.specs.KernelView.{pages_of, owner_of}
+use Rattle.kern_model.specs.KernelView.{value}
+use Rattle.tr_model.specs.Denotes.{control_of, dir_of, IsCofferPage, Chain}
 use Rattle.zo_ops.specs.Laid.{Role, Spare, Control, Root, Entries, FilePage, FileAt, IsPlaceOf, HasFile, entries_in, IsBuilt, AreFree, IsLaid, stored_all}
 use Rattle.zo_ops.proofs.KeepLaws.{entries_are_files, entry_held, place_held, value_stored, value_other, Held, IsApart, IsAside, held_stored, pages_held, coffer_held, chain_held, file_held, aside_no_head}
 use Rattle.zo_ops.specs.Reach.{IsCofferWord}

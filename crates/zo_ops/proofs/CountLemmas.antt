@@ -5,7 +5,8 @@ use Rattle.std.proofs.lemmas.Bool.Decides.{nat_tests}
 use Rattle.std.proofs.lemmas.List.Sums.{sum_by-cons, count_by-le-length}
 use Rattle.pm_words.specs.Word.{Word}
 use Rattle.zo_layout.specs.Layout.{bucket_head, bucket_of}
-use Rattle.tr_types.specs.Denotes.{value, dir_of, Chain, IsPlace}
+use Rattle.kern_model.specs.KernelView.{value}
+use Rattle.tr_model.specs.Denotes.{dir_of, Chain, IsPlace}
 use Rattle.zo_ops.specs.Laid.{Role, FileAt, IsBuilt, entries_in}
 use Rattle.tr_types.specs.declared.action.Answer.{Answer}
 use Rattle.zo_ops.specs.declared.count.Asked.{Asked as CountAsked}

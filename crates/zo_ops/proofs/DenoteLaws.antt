@@ -3,8 +3,9 @@ use Rattle.std.proofs.Common.{◌≡◌, ◌≢◌, ◌⊎◌, inl, inr, ℕ, Bo
 use Rattle.std.proofs.lemmas.Bool.{cond-true}
 use Rattle.pm_words.specs.Word.{Word}
 use Rattle.zo_layout.specs.Layout.{page_at, bucket_of, entry_target}
-use Rattle.tr_types.specs.Tree.{Node, node_at}
-use Rattle.tr_types.specs.Denotes.{value, page_of, IsNamed, IsShown, IsApart, Denotes}
+use Rattle.zo_model.specs.Tree.{Node, node_at}
+use Rattle.kern_model.specs.KernelView.{value}
+use Rattle.tr_model.specs.Denotes.{page_of, IsNamed, IsShown, IsApart, Denotes}
 use Rattle.zo_ops.specs.Laid.{Role, Entries, FilePage, FileAt, AreDistinct, IsBuilt, entries_in, tree_of}
 use Rattle.zo_ops.proofs.TreeLaws.{node_of_file, file_of_node, node_of_root, flat_tree}
 use Rattle.zo_ops.proofs.Members.{contains_here, contains_there, contains_cases, contains_none}

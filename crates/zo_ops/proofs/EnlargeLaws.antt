@@ -3,9 +3,10 @@ use Rattle.std.proofs.Common.{◌≡◌, ◌⊎◌, inl, inr, ℕ, ◌/◌, ◌%
 use Rattle.pm_words.specs.Word.{Word}
 use Rattle.pm_words.specs.Memory.{IsPages}
 use Rattle.zo_layout.specs.Layout.{page_at, word_of, kernel_pages, root_control, root_page, bucket_head, first_free_entry, pool_head, entry_target, file_map, name_length, name_word}
-use Rattle.tr_types.specs.KernelView.{pages_of, owner_of, free_pages}
-use Rattle.tr_types.specs.RootCoffer.{IsGivenTo}
-use Rattle.tr_types.specs.Denotes.{value, IsCofferPage, IsPlace, Chain, IsNamed}
+use Rattle.kern_model.specs.KernelView.{pages_of, owner_of, free_pages}
+use Rattle.kern_model.specs.Given.{IsGivenTo}
+use Rattle.kern_model.specs.KernelView.{value}
+use Rattle.tr_model.specs.Denotes.{IsCofferPage, IsPlace, Chain, IsNamed}
 use Rattle.zo_ops.specs.Laid.{Role, FileAt, IsPlaceOf, HasFile, entries_in, IsBuilt, AreFree, IsLaid, IsFresh}
 use Rattle.zo_ops.proofs.DenoteLaws.{file_of_entry}
 use Rattle.zo_ops.proofs.GivenLaws.{IsGiven, free_is, given_all, pages_same}

@@ -3,8 +3,9 @@ use Rattle.std.proofs.Common.{◌≡◌, ◌≢◌, ◌⊎◌, inl, inr, ℕ, �
 use Rattle.pm_words.specs.Word.{Word}
 use Rattle.pm_words.specs.Memory.{store_at, IsPages}
 use Rattle.zo_layout.specs.Layout.{page_at, root_page, bucket_head, bucket_of, entry_place, first_entry_page, first_free_entry, file_map, word_of}
-use Rattle.tr_types.specs.KernelView.{pages_of, owner_of}
-use Rattle.tr_types.specs.Denotes.{value, dir_of, Chain}
+use Rattle.kern_model.specs.KernelView.{pages_of, owner_of}
+use Rattle.kern_model.specs.KernelView.{value}
+use Rattle.tr_model.specs.Denotes.{dir_of, Chain}
 use Rattle.zo_ops.specs.Laid.{Role, Spare, FilePage, FileAt, IsPlaceOf, HasFile, IsBuilt, AreFree, IsLaid, IsFresh, stored_all}
 use Rattle.zo_ops.specs.Plans.{entry_pairs, free_entry_pairs}
 use Rattle.zo_ops.proofs.KeepLaws.{value_other, Held, Kept, IsAside, InSpare, AtEntryPage, AtFreeEntry, InFree, spare_differs, entries_apart, entry_off_page, held_both, pages_held, coffer_held, place_of_held, past_held, chain_held, stored_kept, all_kept, all_held, built_kept}

@@ -6,8 +6,9 @@ use Rattle.pm_words.specs.Word.{Word}
 use Rattle.pm_words.specs.Memory.{store_at, IsAddress}
 use Rattle.pm_words.proofs.WordLemmas.{length_store_at}
 use Rattle.zo_layout.specs.Layout.{page_at, root_page, bucket_head, bucket_of, entry_place, first_entry_page, first_free_entry, file_map, word_of}
-use Rattle.tr_types.specs.KernelView.{pages_of, owner_of}
-use Rattle.tr_types.specs.Denotes.{value, dir_of, IsCofferPage, Chain}
+use Rattle.kern_model.specs.KernelView.{pages_of, owner_of}
+use Rattle.kern_model.specs.KernelView.{value}
+use Rattle.tr_model.specs.Denotes.{dir_of, IsCofferPage, Chain}
 use Rattle.zo_ops.specs.Laid.{Role, Spare, Entries, FilePage, FileAt, HasFile, IsBuilt, AreFree, IsLaid, IsFresh, stored_all}
 use Rattle.zo_ops.specs.Plans.{entry_pairs, link_pairs, fresh_page_pairs}
 use Rattle.zo_ops.proofs.KeepLaws.{value_other, Held, Kept, IsAside, spare_differs, held_both, pages_held, coffer_held, past_held, stored_kept, built_kept}

@@ -9,11 +9,11 @@ use Rattle.pm_words.specs.Word.{Word, settled}
 use Rattle.pm_words.specs.Memory.{store_at, IsPages}
 use Rattle.pm_words.proofs.WordLemmas.{length_store_at, word_at_other}
 use Rattle.zo_layout.specs.Layout.{page_at, word_of, kernel_pages, owner_word}
-use Rattle.tr_types.specs.KernelView.{pages_of, owner_of, free_pages}
-use Rattle.tr_types.specs.RootCoffer.{IsGivenTo}
+use Rattle.kern_model.specs.KernelView.{pages_of, owner_of, free_pages}
+use Rattle.kern_model.specs.Given.{IsGivenTo}
 use Rattle.zo_ops.specs.Laid.{Role, FileAt, IsLaid}
-use Rattle.tr_types.specs.Denotes.{value}
-use Rattle.tr_types.proofs.FreePages.{pages_are, size_stored, owner_apart, owner_kept, owner_given}
+use Rattle.kern_model.specs.KernelView.{value}
+use Rattle.kern_model.proofs.FreePages.{pages_are, size_stored, owner_apart, owner_kept, owner_given}
 use Rattle.zo_ops.proofs.Members.{contains_cases, contains_none}
 
 -- Elements of a range that pass a test.

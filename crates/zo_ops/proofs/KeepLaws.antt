@@ -5,8 +5,9 @@ use Rattle.pm_words.specs.Word.{Word, settled}
 use Rattle.pm_words.specs.Memory.{store_at, IsAddress, IsPages}
 use Rattle.pm_words.proofs.WordLemmas.{length_store_at, word_at_stored, word_at_other, other_place}
 use Rattle.zo_layout.specs.Layout.{page_at, kernel_pages, owner_word, root_control, root_page, bucket_head, bucket_of, entry_place, first_entry_page, first_free_entry, file_map, word_of}
-use Rattle.tr_types.specs.KernelView.{pages_of, owner_of}
-use Rattle.tr_types.specs.Denotes.{value, control_of, dir_of, page_of, IsCofferPage, IsPlace, Chain, IsNamed}
+use Rattle.kern_model.specs.KernelView.{pages_of, owner_of}
+use Rattle.kern_model.specs.KernelView.{value}
+use Rattle.tr_model.specs.Denotes.{control_of, dir_of, page_of, IsCofferPage, IsPlace, Chain, IsNamed}
 use Rattle.zo_ops.specs.Laid.{Role, Spare, Entries, FilePage, FileAt, IsPlaceOf, HasFile, entries_in, IsBuilt, stored_all}
 use Rattle.zo_ops.specs.Reach.{IsCofferWord}
 use Rattle.zo_ops.proofs.Members.{contains_here, contains_there, contains_cases}

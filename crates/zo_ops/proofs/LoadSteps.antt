@@ -1,9 +1,10 @@
 -- What a call gives with a load: the words and the tree stay, and the call knows the word.
 use Rattle.std.proofs.Common.{◌≡◌, ℕ, List, Bool, true, refl, sym, subst, eq-eqb}
 use Rattle.pm_words.specs.Word.{Word}
-use Rattle.tr_types.specs.Tree.{Member}
-use Rattle.tr_types.specs.Denotes.{value, Denotes}
-use Rattle.tr_types.specs.World.{Phase, Runs, NotYet, drained_after, pool_of}
+use Rattle.zo_model.specs.Tree.{Member}
+use Rattle.kern_model.specs.KernelView.{value}
+use Rattle.tr_model.specs.Denotes.{Denotes}
+use Rattle.tr_model.specs.World.{Phase, Runs, NotYet, drained_after, pool_of}
 use Rattle.tr_types.specs.declared.action.Action.TheVariants.{Load}
 use Rattle.tr_types.specs.declared.action.Answer.{Answer}
 use Rattle.tr_types.specs.declared.action.Answer.TheVariants.{Word as WordIs, Done, Fault, Kern}

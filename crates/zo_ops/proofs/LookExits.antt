@@ -6,9 +6,9 @@ use Rattle.std.proofs.lemmas.Bool.{ne_eqb}
 use Rattle.std.proofs.lemmas.Map.Steps.{length-le_from_distinct_below}
 use Rattle.std.proofs.lemmas.Map.Views.{Contains-from_any}
 use Rattle.pm_words.specs.Word.{Word}
-use Rattle.tr_types.specs.Tree.{Member}
-use Rattle.tr_types.specs.Denotes.{dir_of}
-use Rattle.tr_types.specs.World.{Phase, Runs, NotYet}
+use Rattle.zo_model.specs.Tree.{Member}
+use Rattle.tr_model.specs.Denotes.{dir_of}
+use Rattle.tr_model.specs.World.{Phase, Runs, NotYet}
 use Rattle.tr_types.specs.declared.action.Action.TheVariants.{Load}
 use Rattle.tr_types.specs.declared.action.Answer.{Answer}
 use Rattle.tr_types.specs.declared.command.Command.{Command}
@@ -27,7 +27,7 @@ use Rattle.zo_ops.specs.declared.lookup.Asked.TheVariants.{Nothing as LookNothin
 use Rattle.zo_ops.specs.declared.lookup.Lookup.{Lookup}
 use Rattle.zo_ops.specs.declared.lookup.LookStep.{LookStep}
 use Rattle.zo_ops.specs.declared.lookup.LookStep.TheVariants as look_step
-use Rattle.tr_types.specs.Commands.{IsCommand, IsPathOfOne}
+use Rattle.zo_model.specs.Commands.{IsCommand, IsPathOfOne}
 use Rattle.zo_ops.specs.Laid.{Role, FileAt, IsBuilt, AreDistinct}
 use Rattle.zo_ops.specs.Looking.{LookKnows, LookGives, CountKnows, CountGives}
 use Rattle.zo_ops.specs.Knows.{AfterKnowing, StageKnows, IsRunning, IsRunningFrom, FindKnows, MissKnows, IsCreate, IsStat, name_of}

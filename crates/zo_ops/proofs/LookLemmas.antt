@@ -4,7 +4,8 @@ use Rattle.std.proofs.lemmas.Bool.{eq-eqb, cases_lt}
 use Rattle.std.proofs.lemmas.List.{same_lists, get_or-take, get_or-drop, get_or_default, length-take, length-drop}
 use Rattle.pm_words.specs.Word.{Word}
 use Rattle.zo_layout.specs.Layout.{page_at, bucket_head, bucket_of, entry_target, name_length, name_word}
-use Rattle.tr_types.specs.Denotes.{value, dir_of, Chain, IsNamed, IsPlace}
+use Rattle.kern_model.specs.KernelView.{value}
+use Rattle.tr_model.specs.Denotes.{dir_of, Chain, IsNamed, IsPlace}
 use Rattle.zo_ops.specs.Laid.{Role, FileAt, IsBuilt, entries_in}
 use Rattle.tr_types.specs.declared.action.Answer.{Answer}
 use Rattle.zo_ops.specs.declared.lookup.Asked.{Asked as LookAsked}

@@ -3,7 +3,7 @@ use Rattle.std.proofs.Common.{◌≡◌, ℕ, suc, ◌+◌, ◌-◌, ◌<◌, Li
 use mathlib.Core.Bool.{cond}
 use Rattle.std.specs.Prelude.{filter}
 use Rattle.std.specs.List.{range_with_len}
-use Rattle.tr_types.specs.Marks.{mark_by}
+use Rattle.tr_model.specs.Marks.{mark_by}
 use Rattle.tr_types.specs.declared.entry.Mark.{Mark}
 
 -- the keys behind this one, where this one isn't enabled

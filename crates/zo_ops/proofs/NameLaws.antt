@@ -2,8 +2,8 @@
 use Rattle.std.proofs.Common.{◌≡◌, ◌≢◌, ℕ, ◌<◌, Bool, not, cond, ◌==◌, List, [], ◌∷◌, length, drop, filter, All, refl, ap, ◌∙◌, arith, eq-eqb, ne_eqb}
 use Rattle.std.proofs.lemmas.Bool.{cond-true, cond-false}
 use Rattle.std.proofs.lemmas.List.Elements.{All-head, All-tail, All-weaker}
-use Rattle.tr_types.specs.Tree.{in_first, parts_of, names_of}
-use Rattle.tr_types.specs.Commands.{IsName, IsNameByte, IsPathOfOne}
+use Rattle.tr_types.specs.Paths.{in_first, parts_of, names_of}
+use Rattle.zo_model.specs.Commands.{IsName, IsNameByte, IsPathOfOne}
 
 -- a text with no slash is one part
 parts_of_plain : (name : List ℕ) → All (λ byte. byte ≢ 47) name → parts_of name ≡ name ∷ []

@@ -6,11 +6,12 @@ use Rattle.pm_words.specs.Word.{Word}
 use Rattle.pm_words.specs.Memory.{all_durable, IsPages}
 use Rattle.pm_words.proofs.WordLemmas.{word_at_all_durable}
 use Rattle.zo_layout.specs.Layout.{page_at, word_of, kernel_pages, owner_word, owner_table, coffer_table, bucket_page, root_control, root_page, bucket_head, first_free_entry, pool_head}
-use Rattle.tr_types.specs.NewImage.{new_image, new_word, word_in_page, owner_table_word, owner_in_new}
-use Rattle.tr_types.specs.KernelView.{pages_of, owner_of}
-use Rattle.tr_types.specs.Denotes.{value, IsCofferPage}
+use Rattle.kern_model.specs.NewImage.{new_image, new_word, word_in_page, owner_table_word, owner_in_new}
+use Rattle.kern_model.specs.KernelView.{pages_of, owner_of}
+use Rattle.kern_model.specs.KernelView.{value}
+use Rattle.tr_model.specs.Denotes.{IsCofferPage}
 use Rattle.zo_ops.specs.Laid.{Role, Spare, Control, Root, IsBuilt, IsLaid}
-use Rattle.tr_types.proofs.FreePages.{pages_are, size_opened, free_in_new}
+use Rattle.kern_model.proofs.FreePages.{pages_are, size_opened, free_in_new}
 use Rattle.zo_ops.proofs.Members.{contains_none}
 
 -- Words past the kernel's pages.

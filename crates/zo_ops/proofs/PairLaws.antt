@@ -5,7 +5,7 @@ use Rattle.pm_words.specs.Word.{Word}
 use Rattle.pm_words.specs.Memory.{store_at}
 use Rattle.pm_words.proofs.WordLemmas.{word_at_other}
 use Rattle.zo_layout.specs.Layout.{entry_place, name_word, first_entry_page, first_free_entry, word_of}
-use Rattle.tr_types.specs.Denotes.{value}
+use Rattle.kern_model.specs.KernelView.{value}
 use Rattle.zo_ops.specs.Laid.{stored_all}
 use Rattle.zo_ops.specs.Plans.{letters_word, letter_pairs, entry_pairs, free_entry_pairs, link_pairs, fresh_page_pairs}
 use Rattle.zo_ops.proofs.PlanLemmas.{AreAside, stored_all_aside}

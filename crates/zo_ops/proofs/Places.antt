@@ -3,8 +3,8 @@ use Rattle.std.proofs.Common.{◌≡◌, ℕ, ◌+◌, ◌*◌, ◌^◌, ◌<◌
 use Rattle.pm_words.specs.Word.{Word}
 use Rattle.pm_words.specs.Memory.{IsPages}
 use Rattle.zo_layout.specs.Layout.{page_at, word_of, root_control, root_page, pool_head, bucket_head}
-use Rattle.tr_types.specs.KernelView.{pages_of, owner_of}
-use Rattle.tr_types.specs.Denotes.{dir_of, control_of, page_of, IsCofferPage, IsPlace}
+use Rattle.kern_model.specs.KernelView.{pages_of, owner_of}
+use Rattle.tr_model.specs.Denotes.{dir_of, control_of, page_of, IsCofferPage, IsPlace}
 use Rattle.zo_ops.specs.Laid.{Role, FileAt, IsPlaceOf, HasFile, IsBuilt}
 use Rattle.zo_ops.specs.Reach.{IsCofferWord}
 

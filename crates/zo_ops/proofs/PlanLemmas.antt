@@ -8,7 +8,8 @@ use Rattle.pm_words.specs.Word.{Word}
 use Rattle.pm_words.specs.Memory.{store_at, IsAddress}
 use Rattle.pm_words.proofs.WordLemmas.{length_store_at, word_at_stored, word_at_other}
 use Rattle.zo_layout.specs.Layout.{entry_target, name_length, name_word}
-use Rattle.tr_types.specs.Denotes.{value, IsNamed}
+use Rattle.kern_model.specs.KernelView.{value}
+use Rattle.tr_model.specs.Denotes.{IsNamed}
 use Rattle.zo_ops.specs.Plans.{letters_word, entry_pairs, pair_at}
 use Rattle.zo_ops.specs.Laid.{stored_all}
 use Rattle.zo_ops.proofs.LettersLemmas.{letter_at}

@@ -6,7 +6,7 @@ use Rattle.pm_words.specs.Word.{Word}
 use Rattle.pm_words.specs.Memory.{store_at, IsAddress}
 use Rattle.pm_words.proofs.WordLemmas.{length_store_at}
 use Rattle.zo_layout.specs.Layout.{page_at, entry_place, first_entry_page, first_free_entry}
-use Rattle.tr_types.specs.Denotes.{value}
+use Rattle.kern_model.specs.KernelView.{value}
 use Rattle.zo_ops.specs.Plans.{entry_pairs, free_entry_pairs, fresh_page_pairs}
 use Rattle.zo_ops.specs.Laid.{stored_all}
 use Rattle.zo_ops.proofs.PlanLemmas.{HasEntry, AreAside, length_stored_all, stored_all-append, stored_all_last, stored_all_aside, aside-append, aside_from_outside, entry_stored, entry_outside, named_after}

@@ -1,8 +1,9 @@
 -- What a call gives with its reply: it is what the tree answers, and the ground stays for the next call.
 use Rattle.std.proofs.Common.{◌≡◌, ℕ, ◌<◌, ◌≤◌, List, [], ◌∷◌, length, drop, filter, codes, Contains, Option, Some, None, true, refl, sym, ap, subst, ◌∙◌, arith, inl, inr}
 use Rattle.pm_words.specs.Word.{Word}
-use Rattle.tr_types.specs.Tree.{Member, Node, Directory, FileOf, node_at, names_of, reply_to, tree_after, is_child, IsChange, state_reply}
-use Rattle.tr_types.specs.World.{Phase, Runs, Refused, MayReply}
+use Rattle.zo_model.specs.Tree.{Member, Node, Directory, FileOf, node_at, reply_to, tree_after, is_child, IsChange, state_reply}
+use Rattle.tr_types.specs.Paths.{names_of}
+use Rattle.tr_model.specs.World.{Phase, Runs, Refused, MayReply}
 use Rattle.tr_types.specs.declared.command.Command.{Command}
 use Rattle.tr_types.specs.declared.command.Command.TheVariants.{Create, Stat}
 use Rattle.tr_types.specs.declared.command.Kind.TheVariants.{File, Dir}
@@ -13,7 +14,7 @@ use Rattle.zo_ops.specs.declared.call.Next.TheVariants as next
 use Rattle.zo_ops.specs.declared.plan.PlanRun.{PlanRun}
 use Rattle.zo_ops.specs.declared.plan.Spot.{Spot}
 use Rattle.zo_ops.specs.declared.plan.Spot.TheVariants.{Free, Fresh}
-use Rattle.tr_types.specs.Commands.{IsCommand}
+use Rattle.zo_model.specs.Commands.{IsCommand}
 use Rattle.zo_ops.specs.Laid.{FileAt, tree_of}
 use Rattle.zo_ops.specs.Knows.{Ground, Links, Finds, Stored, NextGives, IsRunning, IsCreate, IsStat, IsMissing, name_of, path_of, spot_pages}
 use Rattle.zo_ops.proofs.NameLaws.{names_of_path, names_of_root}

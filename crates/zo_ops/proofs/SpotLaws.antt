@@ -5,14 +5,15 @@ use Rattle.pm_words.specs.Word.{Word}
 use Rattle.pm_words.specs.Memory.{store_at}
 use Rattle.pm_words.proofs.WordLemmas.{length_store_at}
 use Rattle.zo_layout.specs.Layout.{page_at, root_control, root_page, bucket_head, bucket_of, entry_place}
-use Rattle.tr_types.specs.Tree.{Member, tree_after, IsChange}
-use Rattle.tr_types.specs.Denotes.{value, control_of, dir_of}
+use Rattle.zo_model.specs.Tree.{Member, tree_after, IsChange}
+use Rattle.kern_model.specs.KernelView.{value}
+use Rattle.tr_model.specs.Denotes.{control_of, dir_of}
 use Rattle.tr_types.specs.declared.command.Command.{Command}
 use Rattle.tr_types.specs.declared.command.Command.TheVariants.{Create, Stat}
 use Rattle.zo_ops.specs.declared.call.Coffer.{Coffer}
 use Rattle.zo_ops.specs.declared.plan.Spot.{Spot}
 use Rattle.zo_ops.specs.declared.plan.Spot.TheVariants.{Free, Fresh}
-use Rattle.tr_types.specs.Commands.{IsCommand, IsPathOfOne, IsNameByte}
+use Rattle.zo_model.specs.Commands.{IsCommand, IsPathOfOne, IsNameByte}
 use Rattle.zo_ops.specs.Laid.{Role, FileAt, tree_of, IsBuilt, IsLaid, stored_all}
 use Rattle.zo_ops.specs.Reach.{IsCofferWord}
 use Rattle.zo_ops.specs.Knows.{Ground, Links, IsSpot, AreDrawn, IsCreate, IsMissing, spot_pairs, spot_entry, name_of}

@@ -2,8 +2,8 @@
 use Rattle.std.proofs.Common.{◌≡◌, ◌⊎◌, ℕ, ◌<◌, ◌≤◌, List, [], ◌∷◌, ◌++◌, length, take, get_or, Option, Some, None, refl, sym, ap, subst, ◌∙◌, arith, inl, inr}
 use Rattle.pm_words.specs.Word.{Word}
 use Rattle.zo_layout.specs.Layout.{page_at, entry_place}
-use Rattle.tr_types.specs.Tree.{Member}
-use Rattle.tr_types.specs.World.{Phase}
+use Rattle.zo_model.specs.Tree.{Member}
+use Rattle.tr_model.specs.World.{Phase}
 use Rattle.tr_types.specs.declared.action.Action.TheVariants.{Store}
 use Rattle.tr_types.specs.declared.action.Answer.TheVariants.{Word as WordIs}
 use Rattle.tr_types.specs.declared.command.Command.{Command}
@@ -18,7 +18,7 @@ use Rattle.zo_ops.specs.declared.plan.PlanRun.{PlanRun}
 use Rattle.zo_ops.specs.declared.plan.Spot.{Spot}
 use Rattle.zo_ops.specs.declared.plan.Spot.TheVariants.{Free, Fresh}
 use Rattle.zo_ops.specs.Plans.{pair_at, free_entry_pairs, fresh_page_pairs, commit_pair}
-use Rattle.tr_types.specs.Commands.{IsCommand}
+use Rattle.zo_model.specs.Commands.{IsCommand}
 use Rattle.zo_ops.specs.Laid.{stored_all}
 use Rattle.zo_ops.specs.Knows.{NextGives, AfterKnowing, PlacingKnows, AskKnows, FillKnows, RunKnows, Prepares, Stored, spot_pairs, spot_entry, name_of}
 use Rattle.zo_ops.proofs.PlanLemmas.{pair_at_commit, pair_at_over}

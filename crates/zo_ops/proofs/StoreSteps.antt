@@ -6,10 +6,10 @@ use Rattle.std.proofs.lemmas.List.Sums.{fold-append}
 use Rattle.pm_words.specs.Word.{Word}
 use Rattle.pm_words.specs.Memory.{store_at}
 use Rattle.zo_layout.specs.Layout.{bucket_head, bucket_of}
-use Rattle.tr_types.specs.Marks.{mark_of}
-use Rattle.tr_types.specs.Tree.{Member, tree_after, reply_to, IsChange}
-use Rattle.tr_types.specs.Denotes.{Denotes, dir_of, control_of}
-use Rattle.tr_types.specs.World.{Phase, Runs, Given, Committed}
+use Rattle.tr_model.specs.Marks.{mark_of}
+use Rattle.zo_model.specs.Tree.{Member, tree_after, reply_to, IsChange}
+use Rattle.tr_model.specs.Denotes.{Denotes, dir_of, control_of}
+use Rattle.tr_model.specs.World.{Phase, Runs, Given, Committed}
 use Rattle.tr_types.specs.declared.action.Action.TheVariants.{Store}
 use Rattle.tr_types.specs.declared.action.Answer.{Answer}
 use Rattle.tr_types.specs.declared.action.Answer.TheVariants.{Word as WordIs, Done, Fault, Kern}
@@ -21,7 +21,7 @@ use Rattle.zo_ops.specs.declared.call.Coffer.{Coffer}
 use Rattle.zo_ops.specs.declared.call.Next.TheVariants as next
 use Rattle.zo_ops.specs.declared.call.Stage.TheVariants as stage
 use Rattle.zo_ops.specs.declared.plan.PlanRun.{PlanRun}
-use Rattle.tr_types.specs.Commands.{IsCommand}
+use Rattle.zo_model.specs.Commands.{IsCommand}
 use Rattle.zo_ops.specs.Laid.{IsBuilt, stored_all}
 use Rattle.zo_ops.specs.Permitted.{Answers, Leaves}
 use Rattle.zo_ops.specs.Reach.{IsCofferWord}

@@ -6,8 +6,8 @@ use Rattle.std.proofs.lemmas.List.{length_push}
 use Rattle.std.proofs.lemmas.List.Elements.{filter-append}
 use Rattle.std.proofs.lemmas.Option.{none-some}
 use Rattle.tr_types.specs.declared.command.Command.TheVariants.{Create}
-use Rattle.tr_types.specs.Tree.{Node, Directory, FileOf, Member, same_names, node_at, is_child, tree_after}
-use Rattle.tr_types.specs.Commands.{IsPathOfOne}
+use Rattle.zo_model.specs.Tree.{Node, Directory, FileOf, Member, same_names, node_at, is_child, tree_after}
+use Rattle.zo_model.specs.Commands.{IsPathOfOne}
 use Rattle.zo_ops.specs.Laid.{FileAt, tree_of}
 use Rattle.zo_ops.proofs.Members.{contains_here, contains_there, contains_cases, contains_none}
 use Rattle.zo_ops.proofs.NameLaws.{names_of_path}

@@ -1,6 +1,6 @@
 -- What a call does: the actions that it may give, with their marks.
 use Rattle.std.specs.Prelude.{◌≡◌, ℕ, ◌≤◌}
-use Rattle.tr_types.specs.Marks.{mark_of}
+use Rattle.tr_model.specs.Marks.{mark_of}
 use Rattle.tr_types.specs.declared.action.Action.{Action}
 use Rattle.tr_types.specs.declared.action.Action.TheVariants.{Load, Store, Kernel}
 use Rattle.tr_types.specs.declared.command.Command.{Command}

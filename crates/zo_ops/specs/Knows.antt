@@ -2,10 +2,11 @@
 use Rattle.std.specs.Prelude.{◌≡◌, ◌≢◌, ◌⊎◌, ℕ, ◌+◌, ◌<◌, ◌≤◌, List, [], ◌∷◌, length, take, codes, Contains, Bool, true, false}
 use Rattle.pm_words.specs.Word.{Word}
 use Rattle.zo_layout.specs.Layout.{page_at, bucket_head, bucket_of, entry_place, first_free_entry, file_map}
-use Rattle.tr_types.specs.Marks.{mark_of, name_in_root}
-use Rattle.tr_types.specs.Tree.{Member}
-use Rattle.tr_types.specs.Denotes.{value, control_of, dir_of, Denotes}
-use Rattle.tr_types.specs.World.{Phase, Runs, NotYet, Given, Refused, Committed, phase_after, changed, pool_of, IsLegalAct, MayReply}
+use Rattle.tr_model.specs.Marks.{mark_of, name_in_root}
+use Rattle.zo_model.specs.Tree.{Member}
+use Rattle.kern_model.specs.KernelView.{value}
+use Rattle.tr_model.specs.Denotes.{control_of, dir_of, Denotes}
+use Rattle.tr_model.specs.World.{Phase, Runs, NotYet, Given, Refused, Committed, phase_after, changed, pool_of, IsLegalAct, MayReply}
 use Rattle.tr_types.specs.declared.action.Action.{Action}
 use Rattle.tr_types.specs.declared.action.Answer.{Answer}
 use Rattle.tr_types.specs.declared.action.Answer.TheVariants.{Word as WordIs, Done, Kern}
@@ -33,7 +34,7 @@ use Rattle.zo_ops.specs.declared.lookup.Asked.TheVariants.{Nothing as LookNothin
 use Rattle.zo_ops.specs.declared.plan.PlanRun.{PlanRun}
 use Rattle.zo_ops.specs.declared.plan.Spot.{Spot}
 use Rattle.zo_ops.specs.declared.plan.Spot.TheVariants.{Free, Fresh}
-use Rattle.tr_types.specs.Commands.{IsCommand}
+use Rattle.zo_model.specs.Commands.{IsCommand}
 use Rattle.zo_ops.specs.Laid.{Role, FileAt, tree_of, IsLaid, IsFresh, stored_all}
 use Rattle.zo_ops.specs.Permitted.{Answers, Leaves}
 use Rattle.zo_ops.specs.Reach.{IsReachable}
@@ -186,7 +187,7 @@ StageKnows coffer command stage.Over answer words tree phase = ⊥
 
 -- what a call knows with the answer that it gets next
 abbrev pub CallKnows : CallRun → Answer → List Word → List Member → Phase → Type 0
-CallKnows call answer words tree phase = StageKnows call.coffer call.command.now call.stage answer words tree phase
+CallKnows call answer words tree phase = StageKnows call.coffer call.command call.stage answer words tree phase
 
 -- an action that was answered so and left these words: it is legal, they denote the tree afterwards, and then this is known
 pub record Goes (Known : Answer → List Word → List Member → Phase → Type 0) (mark : Mark) (action : Action) (words new : List Word) (tree : List Member) (phase : Phase) (answer : Answer) : Type 0 where
@@ -208,7 +209,7 @@ NextGives coffer command (next.Act action stage) words tree phase = ActGives (St
 NextGives coffer command (next.Over reply) words tree phase = ReplyGives coffer reply words tree phase
 
 abbrev pub StepGives : CallRun → CallStep → List Word → List Member → Phase → Type 0
-StepGives call (step.Act mark action) words tree phase = ActGives (CallKnows call) call.command.now mark action words tree phase
+StepGives call (step.Act mark action) words tree phase = ActGives (CallKnows call) call.command mark action words tree phase
 StepGives call (step.Over reply) words tree phase = ReplyGives call.coffer reply words tree phase
 
 -- what comes after an answer, where this was known with it
@@ -246,4 +247,4 @@ FillKnows coffer command head spot pages words tree phase =
 -- a step that a call gives where it knew what its stage asked for with the answer
 abbrev pub StepsFrom : CallRun → Answer → CallRun → CallStep → Type 0
 StepsFrom old answer new step =
-    IsCommand old.command.now → (words : List Word) (tree : List Member) (phase : Phase) → CallKnows old answer words tree phase → StepGives new step words tree phase
+    IsCommand old.command → (words : List Word) (tree : List Member) (phase : Phase) → CallKnows old answer words tree phase → StepGives new step words tree phase

@@ -4,9 +4,10 @@ use Rattle.std.specs.Prelude.{◌≡◌, ◌≢◌, ℕ, ◌<◌, ◌≤◌, Lis
 use Rattle.pm_words.specs.Word.{Word}
 use Rattle.pm_words.specs.Memory.{store_at, IsPages}
 use Rattle.zo_layout.specs.Layout.{page_at, root_control, root_page, bucket_head, bucket_of, entry_place, entry_target, first_free_entry, file_map, pool_head, word_of}
-use Rattle.tr_types.specs.KernelView.{pages_of, owner_of}
-use Rattle.tr_types.specs.Tree.{Member, FileOf, new_tree}
-use Rattle.tr_types.specs.Denotes.{value, control_of, dir_of, IsCofferPage, Chain, IsNamed}
+use Rattle.kern_model.specs.KernelView.{pages_of, owner_of}
+use Rattle.zo_model.specs.Tree.{Member, FileOf, new_tree}
+use Rattle.kern_model.specs.KernelView.{value}
+use Rattle.tr_model.specs.Denotes.{control_of, dir_of, IsCofferPage, Chain, IsNamed}
 
 -- what a page is for; a page is spare until it is an entry page or a file's
 pub data Role : Type 0 where

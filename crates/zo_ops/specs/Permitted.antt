@@ -2,7 +2,8 @@
 use Rattle.std.specs.Prelude.{◌≡◌, ℕ, ◌≤◌, List, length}
 use Rattle.pm_words.specs.Word.{Word}
 use Rattle.pm_words.specs.Memory.{word_at, store_at, IsAddress}
-use Rattle.tr_types.specs.RootCoffer.{IsEnlarged, EnlargeLeaves}
+use Rattle.tr_model.specs.RootCoffer.{IsEnlarged}
+use Rattle.kern_model.specs.Given.{EnlargeLeaves}
 use Rattle.tr_types.specs.declared.action.Action.{Action}
 use Rattle.tr_types.specs.declared.action.Action.TheVariants.{Load, Store, Kernel}
 use Rattle.tr_types.specs.declared.action.Answer.{Answer}

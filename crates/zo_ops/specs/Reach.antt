@@ -2,8 +2,8 @@
 use Rattle.std.specs.Prelude.{◌≡◌, ℕ, List, length}
 use Rattle.pm_words.specs.Word.{Word}
 use Rattle.pm_words.specs.Memory.{IsAddress}
-use Rattle.tr_types.specs.KernelView.{owner_of}
-use Rattle.tr_types.specs.Denotes.{page_of}
+use Rattle.kern_model.specs.KernelView.{owner_of}
+use Rattle.tr_model.specs.Denotes.{page_of}
 use Rattle.tr_types.specs.declared.action.Action.{Action}
 use Rattle.tr_types.specs.declared.action.Action.TheVariants.{Load, Store, Kernel}
 use Rattle.tr_types.specs.declared.command.Command.{Command}

@@ -4,8 +4,8 @@ ghost use Rattle.zo_ops.specs.Calls.{IsStepOf, IsNextOf};
 ghost use Rattle.zo_ops.specs.Knows.{StepsFrom, CallKnows, AfterKnowing, StageKnows, BeginKnows, FindKnows, MissKnows, PlaceKnows, AskKnows, FillKnows, PoolKnows, RunKnows, path_of, name_of};
 ghost use Rattle.zo_layout.specs.Layout.{page_at, pool_head};
 ghost use Rattle.pm_words.specs.Word.{Word};
-ghost use Rattle.tr_types.specs.Tree.{Member};
-ghost use Rattle.tr_types.specs.World.{Phase};
+ghost use Rattle.zo_model.specs.Tree.{Member};
+ghost use Rattle.tr_model.specs.World.{Phase};
 ghost use Rattle.tr_types.specs.declared.action.Answer.{Answer};
 ghost use Rattle.tr_types.specs.declared.command.Command.{Command};
 ghost use Rattle.zo_ops.specs.declared.call.Stage.TheVariants as stage;
@@ -50,9 +50,9 @@ impl Coffer {
 
 /// A running call of a command in the root coffer.
 #[derive(Debug, Drop)]
-pub struct CallRun<'a> {
+pub struct CallRun {
     coffer: Coffer,
-    command: &'a Command,
+    command: Command,
     stage: Stage,
 }
 
@@ -105,13 +105,13 @@ enum Next {
     Over(Reply),
 }
 
-impl<'a> CallRun<'a> {
-    pub fn begin(coffer: Coffer, command: &'a Command) -> CallRun<'a>
+impl CallRun {
+    pub fn begin(coffer: Coffer, command: Command) -> CallRun
         ensures coffer { result.coffer ≡ coffer }
-        ensures command { result.command.now ≡ command.now }
+        ensures command { result.command ≡ command }
         ensures stage { result.stage ≡ Stage.Begin }
         ensures knows { (first : Answer) (words : List Word) (tree : List Member) (phase : Phase) →
-            BeginKnows coffer command.now words tree phase → CallKnows result first words tree phase }
+            BeginKnows coffer command words tree phase → CallKnows result first words tree phase }
     {
         CallRun {
             coffer,
@@ -123,15 +123,15 @@ impl<'a> CallRun<'a> {
     /// Goes on with the answer to the last action. The first call has no use for its answer.
     pub fn next(&mut self, alloc: Global, answer: &Answer) -> Result<CallStep, AllocError>
         ensures coffer { self.new.coffer ≡ self.old.coffer }
-        ensures command { self.new.command.now ≡ self.old.command.now }
-        ensures step { IfOk result (IsStepOf self.old.coffer self.old.command.now) }
+        ensures command { self.new.command ≡ self.old.command }
+        ensures step { IfOk result (IsStepOf self.old.coffer self.old.command) }
         ensures gives { IfOk result (StepsFrom self.old answer.now self.new) }
     {
         let stage = mem::replace(&mut self.stage, Stage::Over);
         match self.after(alloc, stage, answer)? {
             Next::Act(action, stage) => {
                 self.stage = stage;
-                let mark = mark_of(self.coffer.dir.at, self.command, &action);
+                let mark = mark_of(self.coffer.dir.at, &self.command, &action);
                 Ok(CallStep::Act(mark, action))
             }
             Next::Over(reply) => Ok(CallStep::Over(reply)),
@@ -140,8 +140,8 @@ impl<'a> CallRun<'a> {
 
     fn after(&self, alloc: Global, stage: Stage, answer: &Answer) -> Result<Next, AllocError>
         ensures allowed { IfOk result (IsNextOf self.now.coffer) }
-        ensures gives { IfOk result (AfterKnowing self.now.coffer self.now.command.now
-            (StageKnows self.now.coffer self.now.command.now stage answer.now)) }
+        ensures gives { IfOk result (AfterKnowing self.now.coffer self.now.command
+            (StageKnows self.now.coffer self.now.command stage answer.now)) }
     {
         match stage {
             Stage::Begin => Ok(self.first()),
@@ -156,24 +156,24 @@ impl<'a> CallRun<'a> {
     }
 
     fn path(&self) -> &[u8]
-        ensures { result.now ≡ path_of self.now.command.now }
+        ensures { result.now ≡ path_of self.now.command }
     {
-        match self.command {
+        match &self.command {
             Command::Create { path, mode: _ } => path.as_bytes(),
             Command::Stat { path } => path.as_bytes(),
         }
     }
 
     fn name(&self) -> &[u8]
-        ensures { result.now ≡ name_of self.now.command.now }
+        ensures { result.now ≡ name_of self.now.command }
     {
         name_in_root(self.path())
     }
 
     fn first(&self) -> Next
         ensures allowed { IsNextOf self.now.coffer result }
-        ensures gives { AfterKnowing self.now.coffer self.now.command.now
-            (BeginKnows self.now.coffer self.now.command.now) result }
+        ensures gives { AfterKnowing self.now.coffer self.now.command
+            (BeginKnows self.now.coffer self.now.command) result }
     {
         if self.name().is_empty() {
             count_names(Count::begin(self.coffer.dir), &Answer::Done)
@@ -184,8 +184,8 @@ impl<'a> CallRun<'a> {
 
     fn look(&self, mut look: Lookup, answer: &Answer) -> Next
         ensures allowed { IsNextOf self.now.coffer result }
-        ensures gives { AfterKnowing self.now.coffer self.now.command.now
-            (StageKnows self.now.coffer self.now.command.now (stage.Looking look) answer.now) result }
+        ensures gives { AfterKnowing self.now.coffer self.now.command
+            (StageKnows self.now.coffer self.now.command (stage.Looking look) answer.now) result }
     {
         match look.next(self.name(), answer) {
             LookStep::Load(addr) => load(addr, Stage::Looking(look)),
@@ -198,10 +198,10 @@ impl<'a> CallRun<'a> {
     // The name stands, and the word at `from` is its target.
     fn found(&self, target: u64, from: u64) -> Next
         ensures allowed { IsNextOf self.now.coffer result }
-        ensures gives { AfterKnowing self.now.coffer self.now.command.now
-            (FindKnows self.now.coffer self.now.command.now target) result }
+        ensures gives { AfterKnowing self.now.coffer self.now.command
+            (FindKnows self.now.coffer self.now.command target) result }
     {
-        match (self.command, Link::of(target)) {
+        match (&self.command, Link::of(target)) {
             (Command::Create { .. }, _) => Next::Over(Reply::Exists),
             (Command::Stat { .. }, Link::To(target)) => {
                 load(target.at, Stage::Telling(Telling::Kind { target }))
@@ -213,10 +213,10 @@ impl<'a> CallRun<'a> {
     // The name doesn't stand. `head` is the first word of its bucket.
     fn missing(&self, head: u64) -> Next
         ensures allowed { IsNextOf self.now.coffer result }
-        ensures gives { AfterKnowing self.now.coffer self.now.command.now
-            (MissKnows self.now.coffer self.now.command.now head) result }
+        ensures gives { AfterKnowing self.now.coffer self.now.command
+            (MissKnows self.now.coffer self.now.command head) result }
     {
-        match self.command {
+        match &self.command {
             Command::Create { .. } => load(
                 first_free_entry(self.coffer.dir.at),
                 Stage::Placing(Placing::FreeEntry { head }),
@@ -227,8 +227,8 @@ impl<'a> CallRun<'a> {
 
     fn place(&self, alloc: Global, placing: Placing, answer: &Answer) -> Result<Next, AllocError>
         ensures allowed { IfOk result (IsNextOf self.now.coffer) }
-        ensures gives { IfOk result (AfterKnowing self.now.coffer self.now.command.now
-            (StageKnows self.now.coffer self.now.command.now (stage.Placing placing) answer.now)) }
+        ensures gives { IfOk result (AfterKnowing self.now.coffer self.now.command
+            (StageKnows self.now.coffer self.now.command (stage.Placing placing) answer.now)) }
     {
         let dir = self.coffer.dir.at;
         let Some(word) = loaded(answer) else {
@@ -250,8 +250,8 @@ impl<'a> CallRun<'a> {
     // The directory's first free entry is known: there is one, or an entry page is needed.
     fn free_entry(&self, head: u64, word: u64) -> Next
         ensures allowed { IsNextOf self.now.coffer result }
-        ensures gives { AfterKnowing self.now.coffer self.now.command.now
-            (PlaceKnows self.now.coffer self.now.command.now head word) result }
+        ensures gives { AfterKnowing self.now.coffer self.now.command
+            (PlaceKnows self.now.coffer self.now.command head word) result }
     {
         let dir = self.coffer.dir.at;
         match Link::of(word) {
@@ -273,8 +273,8 @@ impl<'a> CallRun<'a> {
 
     fn ask_pool(&self, head: u64, spot: Spot) -> Next
         ensures allowed { IsNextOf self.now.coffer result }
-        ensures gives { AfterKnowing self.now.coffer self.now.command.now
-            (AskKnows self.now.coffer self.now.command.now head spot) result }
+        ensures gives { AfterKnowing self.now.coffer self.now.command
+            (AskKnows self.now.coffer self.now.command head spot) result }
     {
         load(self.pool(), Stage::Placing(Placing::Pool { head, spot }))
     }
@@ -288,8 +288,8 @@ impl<'a> CallRun<'a> {
         answer: &Answer,
     ) -> Result<Next, AllocError>
         ensures allowed { IfOk result (IsNextOf self.now.coffer) }
-        ensures gives { IfOk result (AfterKnowing self.now.coffer self.now.command.now
-            (StageKnows self.now.coffer self.now.command.now (stage.Drawing head spot) answer.now)) }
+        ensures gives { IfOk result (AfterKnowing self.now.coffer self.now.command
+            (StageKnows self.now.coffer self.now.command (stage.Drawing head spot) answer.now)) }
     {
         let Answer::Kern(answer) = answer else {
             return Ok(damaged(self.pool()));
@@ -307,8 +307,8 @@ impl<'a> CallRun<'a> {
     // The pages are drawn: makes the plan and gives its first store.
     fn fill(&self, alloc: Global, head: u64, spot: Spot, pages: &[u32]) -> Result<Next, AllocError>
         ensures allowed { IfOk result (IsNextOf self.now.coffer) }
-        ensures gives { IfOk result (AfterKnowing self.now.coffer self.now.command.now
-            (FillKnows self.now.coffer self.now.command.now head spot pages.now)) }
+        ensures gives { IfOk result (AfterKnowing self.now.coffer self.now.command
+            (FillKnows self.now.coffer self.now.command head spot pages.now)) }
     {
         let bucket = Bucket {
             dir: self.coffer.dir,
@@ -330,8 +330,8 @@ impl<'a> CallRun<'a> {
     // The store to the address `at` was answered.
     fn store(&self, run: PlanRun, at: u64, answer: &Answer) -> Next
         ensures allowed { IsNextOf self.now.coffer result }
-        ensures gives { AfterKnowing self.now.coffer self.now.command.now
-            (StageKnows self.now.coffer self.now.command.now (stage.Storing run at) answer.now) result }
+        ensures gives { AfterKnowing self.now.coffer self.now.command
+            (StageKnows self.now.coffer self.now.command (stage.Storing run at) answer.now) result }
     {
         match answer {
             Answer::Done => self.give_store(run),
@@ -342,8 +342,8 @@ impl<'a> CallRun<'a> {
     // A call stores nothing below its coffer's control page: those pages are the kernel's.
     fn give_store(&self, mut run: PlanRun) -> Next
         ensures allowed { IsNextOf self.now.coffer result }
-        ensures gives { AfterKnowing self.now.coffer self.now.command.now
-            (RunKnows self.now.coffer self.now.command.now run) result }
+        ensures gives { AfterKnowing self.now.coffer self.now.command
+            (RunKnows self.now.coffer self.now.command run) result }
     {
         match run.next() {
             Some((at, _)) if at < self.coffer.control.at => damaged(at),

@@ -2,7 +2,7 @@
 ghost use Rattle.std.specs.Prelude.{◌≡◌, ℕ, ◌+◌, ◌^◌, ◌<◌, List, length};
 ghost use Rattle.pm_words.specs.Word.{Word};
 ghost use Rattle.zo_layout.specs.Layout.{bucket_head as bucket_head_at};
-ghost use Rattle.tr_types.specs.Denotes.{dir_of};
+ghost use Rattle.tr_model.specs.Denotes.{dir_of};
 ghost use Rattle.tr_types.specs.declared.action.Answer.{Answer};
 ghost use Rattle.zo_ops.specs.Laid.{Role, FileAt, IsBuilt};
 ghost use Rattle.zo_ops.specs.Looking.{count_below, Counts, CountKnows, CountGives};

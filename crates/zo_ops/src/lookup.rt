@@ -2,7 +2,8 @@
 ghost use Rattle.std.specs.Prelude.{◌≡◌, ℕ, ◌*◌, ◌<◌, ◌≤◌, ◌≢◌, List, length, Contains};
 ghost use Rattle.pm_words.specs.Word.{Word};
 ghost use Rattle.zo_layout.specs.Layout.{bucket_head as bucket_head_at, bucket_of as bucket_of_name, name_length as name_length_at, name_word as name_word_at};
-ghost use Rattle.tr_types.specs.Denotes.{value, dir_of};
+ghost use Rattle.kern_model.specs.KernelView.{value};
+ghost use Rattle.tr_model.specs.Denotes.{dir_of};
 ghost use Rattle.tr_types.specs.declared.action.Answer.{Answer};
 ghost use Rattle.zo_ops.specs.Laid.{Role, FileAt, IsBuilt};
 ghost use Rattle.zo_ops.specs.Looking.{Walks, Agrees, LookKnows, LookGives};

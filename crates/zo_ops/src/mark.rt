@@ -1,7 +1,7 @@
 // What the actions of a call are for.
 ghost use Rattle.std.specs.Prelude.{◌≡◌, ◌<◌, ◌≤◌, ◌^◌, drop};
-ghost use Rattle.tr_types.specs.Marks.{mark_of, pkru_mark, is_commit_word, name_in_root};
-ghost use Rattle.tr_types.specs.Rights.{may_read};
+ghost use Rattle.tr_model.specs.Marks.{mark_of, pkru_mark, is_commit_word, name_in_root};
+ghost use Rattle.kern_model.specs.Rights.{may_read};
 
 use tr_types::{Action, Command, Mark};
 use zo_layout::{bucket_head, bucket_of};

@@ -1,5 +1,8 @@
-//! The program: standard input is the script, standard output takes the replies, `zofs.img` is the image that is
-//! read and `zofs.new` the one that is saved.
+//! The program: standard input is the script, standard output takes the replies, and the file `zofs.new` the image
+//! that a script has left which was run to its end. Where a run stops before, no such file is made.
+//!
+//! The image in the file `zofs.img` is that of runs over an image that stands. Each script makes a new one as yet, so
+//! that the file is neither read nor needed.
 #![tactic(auto)]
 
 use std::process::ExitCode;
@@ -7,9 +10,10 @@ use std::{env, io};
 use tr_outside::{FileSink, FileSource, StdSink, StdSource};
 use tr_top::{Status, zofs_run};
 
-/// The image that is read, and the one that is saved.
+/// The image of a run over one that stands.
 const IMAGE: &str = "zofs.img";
 
+/// The image that is saved.
 const SAVED: &str = "zofs.new";
 
 fn main(rt: HostRuntime) -> io::Result<ExitCode> {

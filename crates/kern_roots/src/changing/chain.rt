@@ -2,11 +2,11 @@
 ghost use Rattle.std.specs.Prelude.{◌≡◌, length};
 ghost use Rattle.zo_layout.specs.Layout as layout;
 ghost use Rattle.pm_words.specs.Memory.{IsAddress};
-ghost use Rattle.tr_types.specs.KernelView.{pages_of};
-ghost use Rattle.tr_types.specs.Journal as journal;
-ghost use Rattle.tr_types.specs.KernelRules.{IsSoundKernel};
-ghost use Rattle.tr_types.specs.KernelTables.{chain_in};
-ghost use Rattle.tr_types.specs.PathMap as map;
+ghost use Rattle.kern_model.specs.KernelView.{pages_of};
+ghost use Rattle.kern_model.specs.Journal as journal;
+ghost use Rattle.kern_model.specs.KernelRules.{IsSoundKernel};
+ghost use Rattle.kern_model.specs.KernelTables.{chain_in};
+ghost use Rattle.kern_model.specs.PathMap as map;
 
 use crate::reading::entry::{entry_at, next_of, read};
 use crate::reading::fronts::LONGEST_CHAIN;

@@ -2,7 +2,7 @@
 ghost use Rattle.std.specs.Prelude.{◌≡◌, ◌+◌, ◌*◌, ◌<◌, ◌≤◌, ◌^◌, [], ◌∷◌, ◌++◌, ℕ, length, take, drop, replicate, nat_lt, IfOk, OnOk};
 ghost use Rattle.std.specs.List.{position_or_len};
 ghost use Rattle.std.specs.Int.{w64, from_le_bytes};
-ghost use Rattle.tr_types.specs.PathMap as map;
+ghost use Rattle.kern_model.specs.PathMap as map;
 ghost use Rattle.kern_roots.specs.Reading.{state_word};
 ghost use Rattle.kern_roots.specs.Changes.{new_coffer};
 

@@ -1,14 +1,15 @@
 // Which numbers and paths coffers have.
 ghost use Rattle.std.specs.Prelude.{◌≡◌, ◌≤◌, true, IfSome};
-ghost use Rattle.tr_types.specs.KernelView.{pages_of};
-ghost use Rattle.tr_types.specs.Journal.{kernel_word};
-ghost use Rattle.tr_types.specs.KernelRules.{IsSoundKernel};
-ghost use Rattle.tr_types.specs.PathMap as map;
+ghost use Rattle.kern_model.specs.KernelView.{pages_of};
+ghost use Rattle.kern_model.specs.Journal.{kernel_word};
+ghost use Rattle.kern_model.specs.KernelRules.{IsSoundKernel};
+ghost use Rattle.kern_model.specs.PathMap as map;
 ghost use Rattle.kern_roots.specs.Entries.{has_coffer};
 ghost use Rattle.kern_roots.specs.Changes as spec;
 
-use crate::reading::entry::{IDS, is_there};
+use crate::reading::entry::is_there;
 use crate::reading::fronts::coffer_at;
+use kern_model::LAST_COFFER;
 use pm_words::Words;
 
 /// Whether a coffer has the number.
@@ -37,7 +38,7 @@ pub fn free_id(words: &Words) -> Option<u16>
     ensures least { IfSome result (λ id. 1 ≤ id) }
     ensures most { IfSome result (λ id. id ≤ 256) }
 {
-    for id in 1..IDS + 1 {
+    for id in 1..LAST_COFFER + 1 {
         if !is_there(words, id) {
             return Some(id);
         }

@@ -1,14 +1,13 @@
 // Changes of a new image of 64 pages. Its coffer table begins at address 20,480 with the entry of the
 // root coffer, and its path buckets at 151,552. Entry 2 begins at 20,992; `/x` is in bucket 178.
 ghost use Rattle.std.specs.Prelude.{◌≡◌, IfOk};
-ghost use Rattle.tr_types.specs.KernelRules.{IsSoundKernel};
+ghost use Rattle.kern_model.specs.KernelRules.{IsSoundKernel};
 
 use super::*;
 use kern_journal::new_image;
+use kern_model::ROOT_COFFER;
 use pm_words::NoMemory;
 use std::test::Fail;
-
-const ROOT: u16 = 1;
 
 const PERM: Perm = Perm {
     uid: 5,
@@ -95,7 +94,7 @@ fn pairs_stand_in_order_of_address(rt: HostRuntime) -> Result<(), Fail> {
     let words = new_words(rt.alloc())?;
     let x = path(rt.alloc(), b"/x")?;
     let (_, added) = add(rt.alloc(), &words, &x, &STANDING)?;
-    let dropped = drop_entry(rt.alloc(), &words, ROOT)?;
+    let dropped = drop_entry(rt.alloc(), &words, ROOT_COFFER)?;
     for pairs in [&added, &dropped] {
         for window in pairs.as_slice().windows(2) {
             assert!(rt; window[0].0 < window[1].0);
@@ -107,7 +106,7 @@ fn pairs_stand_in_order_of_address(rt: HostRuntime) -> Result<(), Fail> {
 #[test]
 fn the_root_coffers_words_go(rt: HostRuntime) -> Result<(), Fail> {
     let words = new_words(rt.alloc())?;
-    let pairs = drop_entry(rt.alloc(), &words, ROOT)?;
+    let pairs = drop_entry(rt.alloc(), &words, ROOT_COFFER)?;
     assert_eq!(rt; pairs.len(), 65);
     assert_eq!(rt; pairs.get(0), Some(&(20480, 0)));
     assert_eq!(rt; pairs.get(63), Some(&(20984, 0)));
@@ -118,9 +117,9 @@ fn the_root_coffers_words_go(rt: HostRuntime) -> Result<(), Fail> {
 #[test]
 fn some_words_of_the_root_coffer_change(rt: HostRuntime) -> Result<(), Fail> {
     let words = new_words(rt.alloc())?;
-    let perm = set_perm(rt.alloc(), &words, ROOT, &PERM)?;
-    let state = set_state(rt.alloc(), &words, ROOT, RootState::Quarantined)?;
-    let root = set_root(rt.alloc(), &words, ROOT, 50)?;
+    let perm = set_perm(rt.alloc(), &words, ROOT_COFFER, &PERM)?;
+    let state = set_state(rt.alloc(), &words, ROOT_COFFER, RootState::Quarantined)?;
+    let root = set_root(rt.alloc(), &words, ROOT_COFFER, 50)?;
     assert_eq!(rt;
         perm.as_slice(),
         [(20488, 5), (20496, 6), (20504, 384)].as_slice()

@@ -5,14 +5,15 @@ ghost use Rattle.std.specs.List.{starts_with};
 ghost use Rattle.zo_layout.specs.Layout as layout;
 ghost use Rattle.pm_words.specs.Memory.{IsAddress, HasPages};
 ghost use Rattle.tr_types.specs.Paths.{same_text};
-ghost use Rattle.tr_types.specs.KernelView.{pages_of};
-ghost use Rattle.tr_types.specs.Journal as journal;
-ghost use Rattle.tr_types.specs.KernelTables.{is_id, path_length};
-ghost use Rattle.tr_types.specs.KernelRules.{IsSoundKernel};
+ghost use Rattle.kern_model.specs.KernelView.{pages_of};
+ghost use Rattle.kern_model.specs.Journal as journal;
+ghost use Rattle.kern_model.specs.KernelTables.{is_id, path_length};
+ghost use Rattle.kern_model.specs.KernelRules.{IsSoundKernel};
 ghost use Rattle.kern_roots.specs.Reading.{root_of};
 ghost use Rattle.kern_roots.specs.Entries as spec;
 
 use crate::types::{Root, RootState};
+use kern_model::LAST_COFFER;
 use pm_words::Words;
 use std::alloc::{AllocError, Global};
 use tr_types::Perm;
@@ -21,11 +22,7 @@ use zo_layout::{
     coffer_path_length, coffer_path_word, coffer_root, coffer_state, coffer_uid,
 };
 
-/// The greatest number of a coffer.
-pub const IDS: u16 = 256;
-
-/// Bytes of a word.
-const WORD_BYTES: usize = 8;
+const WORD_BYTES: usize = zo_layout::WORD_BYTES as usize;
 
 /// The word at an address, as the kernel reads it.
 pub fn read(words: &Words, addr: u64) -> u64
@@ -51,7 +48,7 @@ pub fn is_there(words: &Words, id: u16) -> bool
     requires sound { IsSoundKernel words.now }
     ensures { result ≡ spec.has_coffer words.now id }
 {
-    if id < 1 || IDS < id {
+    if id < 1 || LAST_COFFER < id {
         return false;
     }
     matches!(read(words, coffer_state(entry_at(words, id))), 1 | 2)

@@ -1,17 +1,15 @@
 // The coffer of a path, looked for by the path's fronts of whole names.
 ghost use Rattle.std.specs.Prelude.{◌≡◌, ◌≤◌, ◌<◌, length, take, true, Some};
 ghost use Rattle.tr_types.specs.Paths.{is_path_text};
-ghost use Rattle.tr_types.specs.Kernel.{coffers};
-ghost use Rattle.tr_types.specs.KernelRules.{IsSoundKernel};
+ghost use Rattle.kern_model.specs.Kernel.{coffers};
+ghost use Rattle.kern_model.specs.KernelRules.{IsSoundKernel};
 ghost use Rattle.kern_roots.specs.Entries as entries;
 ghost use Rattle.kern_roots.specs.Fronts as spec;
 
 use super::entry::{has_path, next_of, read};
+use kern_model::ROOT_COFFER;
 use pm_words::Words;
 use zo_layout::{bucket_of, path_bucket};
-
-/// The number of the root coffer, whose path is `/`.
-pub const ROOT: u16 = 1;
 
 /// More coffers than a chain can have.
 pub const LONGEST_CHAIN: u16 = 257;
@@ -42,7 +40,10 @@ pub fn longest_front(words: &Words, path: &[u8], most: usize) -> Front
         }
         end -= 1;
     }
-    Front { id: ROOT, end: 1 }
+    Front {
+        id: ROOT_COFFER,
+        end: 1,
+    }
 }
 
 // The coffer whose path is the first `end` bytes of a path, where a name ends there.

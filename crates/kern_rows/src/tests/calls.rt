@@ -4,10 +4,6 @@
 //
 // Page `p` begins at address 4096 * p, its owner word stands at 16384 + 8 * p, and the entry of coffer `id`
 // at 20480 + 512 * (id - 1).
-use super::image::{RowFault, THREE, image_with};
-use super::stand::Stand;
-use std::alloc::Global;
-
 mod changing;
 mod coming;
 mod first;
@@ -20,9 +16,3 @@ mod paths;
 const LEASES: [(u64, u64); 2] = [(155656, 25769803777), (155664, 30064771073)];
 
 const NOW: u32 = 7;
-
-/// The lines of a table that have another outcome on the image with these words stored in it.
-fn wrong_lines(alloc: Global, stored: &[(u64, u64)], table: &str) -> Result<String, RowFault> {
-    let words = image_with(alloc, &THREE, stored)?;
-    Stand::over(alloc, &words, NOW)?.wrong_lines(table)
-}

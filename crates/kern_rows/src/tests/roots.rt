@@ -1,149 +1,114 @@
 // The coffers of images, by number and by path.
-ghost use Rattle.tr_types.specs.KernelRules.{IsSoundKernel};
-
-use super::image::{RowFault, THREE, image_with, path};
-use kern_roots::{Found, Root, RootState, RootsFault, children, entry_of, find, path_of};
-use pm_words::Words;
-use std::alloc::Global;
+use super::three::THREE;
+use kern_stand::{Table, wrong_entries_in};
 use std::test::Fail;
-use tr_types::Perm;
 
-/// The root coffer of a new image.
-const ROOT: Root = Root {
-    perm: Perm {
-        uid: 0,
-        gid: 0,
-        mode: 0o666,
+const NEW_IMAGE: &str = "\
+find /x/y -> Found { id: 1, exact: false, path_len: 1 }
+find / -> Found { id: 1, exact: true, path_len: 1 }
+entry 1 -> Root { perm: Perm { uid: 0, gid: 0, mode: 438 }, state: Standing, kind: 0, control: 38, root: 39 }
+entry 0 -> None
+entry 2 -> None
+entry 256 -> None
+entry 257 -> None
+entry 65535 -> None
+path 1 -> /
+children 1 -> []
+";
+
+// A path lies in the coffer with the longest path of whole names, and a coffer directly under the next above.
+const WITH_THREE: &str = "\
+find /a/b/c -> Found { id: 3, exact: false, path_len: 4 }
+find /ab/c -> Found { id: 4, exact: false, path_len: 3 }
+find /abc -> Found { id: 1, exact: false, path_len: 1 }
+find /a/bb -> Found { id: 2, exact: false, path_len: 2 }
+find /a/b -> Found { id: 3, exact: true, path_len: 4 }
+children 1 -> [2, 4]
+children 2 -> [3]
+children 3 -> []
+path 4 -> /ab
+path 0 -> NoCoffer
+path 5 -> NoCoffer
+path 257 -> NoCoffer
+children 0 -> NoCoffer
+children 5 -> NoCoffer
+children 257 -> NoCoffer
+";
+
+// Coffer 2 is quarantined.
+const QUARANTINE: [(u64, u64); 1] = [(20992, 2)];
+
+const QUARANTINED: &str = "\
+entry 2 -> Root { perm: Perm { uid: 0, gid: 0, mode: 438 }, state: Quarantined, kind: 0, control: 40, root: 41 }
+find /a/x -> Found { id: 2, exact: false, path_len: 2 }
+";
+
+// Two pairs are committed: coffer 4 has root page 46, and owns it.
+const COMMITTED_PAIRS: [(u64, u64); 5] = [
+    (4096, 2),
+    (4160, 22056),
+    (4168, 46),
+    (4176, 16752),
+    (4184, 4),
+];
+
+const COMMITTED: &str = "\
+entry 4 -> Root { perm: Perm { uid: 0, gid: 0, mode: 384 }, state: Standing, kind: 0, control: 44, root: 46 }
+";
+
+// `/gd`, coffer 5 of pages 46 and 47, is in the bucket of `/a`, behind it.
+const FIFTH: [(u64, u64); 8] = [
+    (16752, 5),
+    (16760, 5),
+    (22528, 1),
+    (22560, 46),
+    (22568, 47),
+    (22584, 3),
+    (22600, 0x0064_672f),
+    (21040, 5),
+];
+
+const SAME_BUCKET: &str = "\
+find /gd/x -> Found { id: 5, exact: false, path_len: 3 }
+find /a/x -> Found { id: 2, exact: false, path_len: 2 }
+find /qb/x -> Found { id: 1, exact: false, path_len: 1 }
+";
+
+const TABLES: [Table; 4] = [
+    // coffers lie under others by whole names
+    Table {
+        stored: &[],
+        lines: WITH_THREE,
     },
-    state: RootState::Standing,
-    kind: 0,
-    control: 38,
-    root: 39,
-};
-
-// The number of the coffer that a text lies in, whether it is the coffer's path, and the length of that path.
-fn found(alloc: Global, words: &Words, text: &[u8]) -> Result<(u16, bool, u16), RowFault>
-    requires { IsSoundKernel words.now }
-{
-    let Found {
-        id,
-        exact,
-        path_len,
-    } = find(words, &path(alloc, text)?);
-    Ok((id, exact, path_len))
-}
-
-#[test]
-fn in_a_new_image_all_paths_lie_in_the_root_coffer(rt: HostRuntime) -> Result<(), Fail> {
-    let words = image_with(rt.alloc(), &[], &[])?;
-    assert_eq!(rt; found(rt.alloc(), &words, b"/x/y")?, (1, false, 1));
-    assert_eq!(rt; found(rt.alloc(), &words, b"/")?, (1, true, 1));
-    Ok(())
-}
+    // a quarantined coffer is there
+    Table {
+        stored: &QUARANTINE,
+        lines: QUARANTINED,
+    },
+    // a committed pair counts before the word itself
+    Table {
+        stored: &COMMITTED_PAIRS,
+        lines: COMMITTED,
+    },
+    // coffers of one bucket are told apart
+    Table {
+        stored: &FIFTH,
+        lines: SAME_BUCKET,
+    },
+];
 
 #[test]
 fn a_new_image_has_the_root_coffer_alone(rt: HostRuntime) -> Result<(), Fail> {
-    let words = image_with(rt.alloc(), &[], &[])?;
-    assert_eq!(rt; entry_of(&words, 1), Some(ROOT));
-    for id in [0, 2, 256, 257, 65535] {
-        assert_eq!(rt; entry_of(&words, id), None, "coffer {id}");
-    }
-    assert_eq!(rt; path_of(rt.alloc(), &words, 1)?.as_bytes(), b"/".as_slice());
-    assert_eq!(rt; children(rt.alloc(), &words, 1)?.len(), 0);
+    let table = Table {
+        stored: &[],
+        lines: NEW_IMAGE,
+    };
+    assert_eq!(rt; wrong_entries_in(rt.alloc(), &[], &[table])?.as_str(), "");
     Ok(())
 }
 
 #[test]
-fn a_path_lies_in_the_coffer_with_the_longest_path_of_whole_names(
-    rt: HostRuntime,
-) -> Result<(), Fail> {
-    let words = image_with(rt.alloc(), &THREE, &[])?;
-    for (text, want) in [
-        (b"/a/b/c".as_slice(), (3, false, 4)),
-        (b"/ab/c".as_slice(), (4, false, 3)),
-        (b"/abc".as_slice(), (1, false, 1)),
-        (b"/a/bb".as_slice(), (2, false, 2)),
-        (b"/a/b".as_slice(), (3, true, 4)),
-    ] {
-        assert_eq!(rt; found(rt.alloc(), &words, text)?, want);
-    }
-    Ok(())
-}
-
-#[test]
-fn a_coffer_lies_directly_under_the_next_above(rt: HostRuntime) -> Result<(), Fail> {
-    let words = image_with(rt.alloc(), &THREE, &[])?;
-    assert_eq!(rt;
-        children(rt.alloc(), &words, 1)?.as_slice(),
-        [2, 4].as_slice()
-    );
-    assert_eq!(rt; children(rt.alloc(), &words, 2)?.as_slice(), [3].as_slice());
-    assert_eq!(rt; children(rt.alloc(), &words, 3)?.len(), 0);
-    Ok(())
-}
-
-#[test]
-fn what_is_no_coffer_has_no_path_and_no_children(rt: HostRuntime) -> Result<(), Fail> {
-    let words = image_with(rt.alloc(), &THREE, &[])?;
-    assert_eq!(rt;
-        path_of(rt.alloc(), &words, 4)?.as_bytes(),
-        b"/ab".as_slice()
-    );
-    for id in [0, 5, 257] {
-        assert_eq!(rt;
-            path_of(rt.alloc(), &words, id).err(),
-            Some(RootsFault::NoCoffer)
-        );
-        assert_eq!(rt;
-            children(rt.alloc(), &words, id).err(),
-            Some(RootsFault::NoCoffer)
-        );
-    }
-    Ok(())
-}
-
-#[test]
-fn a_quarantined_coffer_is_there(rt: HostRuntime) -> Result<(), Fail> {
-    let words = image_with(rt.alloc(), &THREE, &[(20992, 2)])?;
-    assert_eq!(rt;
-        entry_of(&words, 2).map(|root| root.state),
-        Some(RootState::Quarantined)
-    );
-    assert_eq!(rt; found(rt.alloc(), &words, b"/a/x")?, (2, false, 2));
-    Ok(())
-}
-
-#[test]
-fn a_committed_pair_counts_before_the_word_itself(rt: HostRuntime) -> Result<(), Fail> {
-    // Two pairs are committed: coffer 4 has root page 46, and owns it.
-    let pairs = [
-        (4096, 2),
-        (4160, 22056),
-        (4168, 46),
-        (4176, 16752),
-        (4184, 4),
-    ];
-    let words = image_with(rt.alloc(), &THREE, &pairs)?;
-    assert_eq!(rt; entry_of(&words, 4).map(|root| root.root), Some(46));
-    Ok(())
-}
-
-#[test]
-fn coffers_of_one_bucket_are_told_apart(rt: HostRuntime) -> Result<(), Fail> {
-    // `/gd`, coffer 5 of pages 46 and 47, is in the bucket of `/a`, behind it.
-    let fifth = [
-        (16752, 5),
-        (16760, 5),
-        (22528, 1),
-        (22560, 46),
-        (22568, 47),
-        (22584, 3),
-        (22600, 0x0064_672f),
-        (21040, 5),
-    ];
-    let words = image_with(rt.alloc(), &THREE, &fifth)?;
-    assert_eq!(rt; found(rt.alloc(), &words, b"/gd/x")?, (5, false, 3));
-    assert_eq!(rt; found(rt.alloc(), &words, b"/a/x")?, (2, false, 2));
-    assert_eq!(rt; found(rt.alloc(), &words, b"/qb/x")?, (1, false, 1));
+fn coffers_are_found_by_number_and_by_path(rt: HostRuntime) -> Result<(), Fail> {
+    assert_eq!(rt; wrong_entries_in(rt.alloc(), &THREE, &TABLES)?.as_str(), "");
     Ok(())
 }

@@ -2,7 +2,7 @@
 ghost use Rattle.std.specs.Prelude.{◌≡◌, [], ◌∷◌, IfOk, IsTrue, false, codes};
 ghost use Rattle.tr_script.specs.Grammar.{Declared, command_words, line_words, MayStand, IsThreadOf};
 ghost use Rattle.tr_text.specs.Spelling.{thread_name};
-ghost use Rattle.tr_types.specs.Commands.{IsCommand};
+ghost use Rattle.zo_model.specs.Commands.{IsCommand};
 ghost use Rattle.tr_script.specs.Places.{FirstWord, Size, NewProcess, Zero, NewThread, KnownProcess, KnownThread, StrayThread, CommandWord, FilePath, AnyPath, FileMode, Address, Number, MayBegin, slots_behind};
 ghost use Rattle.tr_script.specs.Reading.{OnBad, IsBadOf, first_text};
 
@@ -11,6 +11,7 @@ use super::seen::Seen;
 use super::slots::{self, First, Name};
 use super::words::Words;
 use crate::Line;
+use sqlite_items::Boxed;
 use std::alloc::Global;
 use tr_types::{Command, Cred, Path};
 
@@ -65,9 +66,9 @@ fn mkfs_line(words: &mut Words) -> Result<Line, Fault>
     Ok(Line::Mkfs(pages))
 }
 
-/// The line of these words behind `process`. The process has uid and gid 0.
+/// The line of these words behind `process`. The process has uid and gid 0, and no further groups.
 #[tactic(auto, using(crate::proofs::SpellingLemmas::decimal_zero))]
-fn process_line(seen: &Seen, words: &mut Words) -> Result<Line, Fault>
+fn process_line(alloc: Global, seen: &Seen, words: &mut Words) -> Result<Line, Fault>
     requires { IsTrue seen.now.begun }
     ensures ok { IfOk result (λ l. (codes "process" ∷ words.old.words ≡ line_words l) × MayStand seen.now l) }
     ensures bad { OnBad result (IsBadOf seen.now (NewProcess ∷ Zero ∷ Zero ∷ []) words.old) }
@@ -78,7 +79,7 @@ fn process_line(seen: &Seen, words: &mut Words) -> Result<Line, Fault>
     words.end()?;
     Ok(Line::Process {
         process,
-        cred: Cred { uid: 0, gid: 0 },
+        cred: Boxed::new(alloc, Cred::new(0, 0))?,
     })
 }
 
@@ -135,7 +136,7 @@ fn line_behind(alloc: Global, seen: &Seen, first: First, words: &mut Words) -> R
 {
     match first {
         First::Mkfs => mkfs_line(words),
-        First::Process => process_line(seen, words),
+        First::Process => process_line(alloc, seen, words),
         First::Thread => thread_line(seen, words),
         First::Call => {
             let (thread, command) = given_command(alloc, seen, words)?;

@@ -1,7 +1,7 @@
 // Takes one word at a kind of place of a line.
 ghost use Rattle.std.specs.Prelude.{◌≡◌, ◌≢◌, ℕ, ◌<◌, ◌≤◌, List, ◌∷◌, IfOk, IfSome, IfNone, OnOk, Contains, Some, codes};
 ghost use Rattle.std.specs.Fmt.{decimal};
-ghost use Rattle.tr_types.specs.Commands.{IsPath, IsPathOfOne};
+ghost use Rattle.zo_model.specs.Commands.{IsPath, IsPathOfOne};
 ghost use Rattle.tr_script.specs.Grammar.{Declared, nothing_declared, IsThreadOf, IsScriptAddress};
 ghost use Rattle.tr_text.specs.Spelling.{process_name, thread_name, mode_text};
 ghost use Rattle.tr_script.specs.Places.{FirstWord, Size, NewProcess, Zero, NewThread, KnownProcess, KnownThread, StrayThread, CommandWord, FilePath, AnyPath, FileMode, Address, Number, MayBe, MayBegin};

@@ -3,7 +3,7 @@ ghost use Rattle.std.specs.Prelude.{◌≡◌, ◌≢◌, ◌↔◌, ◌⊎◌, 
 ghost use Rattle.std.specs.Fmt.{decimal};
 ghost use Rattle.tr_script.specs.Grammar.{IsScriptAddress};
 ghost use Rattle.tr_text.specs.Spelling.{process_name, thread_name};
-ghost use Rattle.tr_types.specs.Commands.{IsName, IsPath, IsPathOfOne};
+ghost use Rattle.zo_model.specs.Commands.{IsName, IsPath, IsPathOfOne};
 
 /// Processes are `p1` to `p64`, threads `t1` to `t256`.
 const PROCESSES: u64 = 64;

@@ -241,7 +241,7 @@ fn words_become_numbers_and_paths(rt: HostRuntime) -> Result<(), ScriptFault> {
                 command: Command::Stat { path: root },
             },
         ] => {
-            assert_eq!(rt; *cred, Cred { uid: 0, gid: 0 });
+            assert_eq!(rt; *cred.get(), Cred::new(0, 0));
             assert_eq!(rt; path.as_bytes(), b"/a".as_slice());
             assert_eq!(rt; root.as_bytes(), b"/".as_slice());
         }

@@ -1,5 +1,5 @@
 use Rattle.std.proofs.Common.{◌≡◌, drop, map, Contains, Some}
-use Rattle.tr_types.specs.KernelCalls.{cred_in}
+use Rattle.kern_model.specs.KernelCalls.{cred_in}
 use Rattle.kern_calls.proofs.maps.cred_in.Given as goal
 
 abbrev pub invariant-loop-started : goal.invariant-loop-started

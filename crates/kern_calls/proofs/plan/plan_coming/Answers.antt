@@ -1,5 +1,5 @@
 use Rattle.std.proofs.Common.{sym, subst}
-use Rattle.tr_types.specs.KernelCalls.{row_of}
+use Rattle.kern_model.specs.KernelCalls.{row_of}
 use Rattle.tr_types.specs.declared.kernel_call.Kcall.{Kcall}
 use Rattle.kern_plans.specs.Plans.{Plans}
 use Rattle.kern_calls.proofs.plan.plan_coming.Goals as goal

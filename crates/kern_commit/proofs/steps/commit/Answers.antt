@@ -1,8 +1,8 @@
 use Rattle.std.proofs.Common.{List, subst}
 use Rattle.std.proofs.lemmas.Result.{on_err_weaker}
 use Rattle.pm_words.specs.Word.{Word}
-use Rattle.tr_types.specs.Inner.{IsCut}
-use Rattle.tr_types.specs.KernelCalls.{zero_events, stored_events}
+use Rattle.kern_model.specs.Inner.{IsCut}
+use Rattle.kern_model.specs.KernelCalls.{zero_events, stored_events}
 use Rattle.kern_commit.proofs.CutLemmas.{cut_before, cut_after, where_err}
 use Rattle.kern_commit.proofs.steps.commit.Goals as goal
 

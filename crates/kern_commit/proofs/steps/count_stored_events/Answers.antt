@@ -1,7 +1,7 @@
 use Rattle.std.proofs.Common.{◌≡◌, List, length, ap, ◌∙◌, arith}
-use Rattle.tr_types.specs.declared.inner.Inner.{Inner}
-use Rattle.tr_types.specs.Inner.{journal_events}
-use Rattle.tr_types.specs.KernelCalls.{in_order}
+use Rattle.kern_model.specs.declared.inner.Inner.{Inner}
+use Rattle.kern_model.specs.Inner.{journal_events}
+use Rattle.kern_model.specs.KernelCalls.{in_order}
 use Rattle.kern_commit.proofs.CountLemmas.{journal_length}
 use Rattle.kern_commit.proofs.steps.count_stored_events.Goals as goal
 

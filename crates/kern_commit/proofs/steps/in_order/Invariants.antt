@@ -1,5 +1,5 @@
 use Rattle.std.proofs.Common.{◌≡◌, take}
-use Rattle.tr_types.specs.KernelCalls.{in_order}
+use Rattle.kern_model.specs.KernelCalls.{in_order}
 use Rattle.kern_commit.proofs.steps.in_order.Given as goal
 
 abbrev pub invariant-loop-addr : goal.invariant-loop-addr

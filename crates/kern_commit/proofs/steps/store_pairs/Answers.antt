@@ -1,7 +1,7 @@
 use Rattle.std.proofs.Common.{ℕ, length, ◌∙◌}
 use Rattle.std.proofs.lemmas.List.Elements.{All-same}
 use Rattle.pm_words.specs.Memory.{IsAddress}
-use Rattle.tr_types.specs.KernelCalls.{in_order}
+use Rattle.kern_model.specs.KernelCalls.{in_order}
 use Rattle.kern_commit.proofs.OrderLemmas.{in_order_all}
 use Rattle.kern_commit.proofs.steps.store_pairs.Goals as goal
 

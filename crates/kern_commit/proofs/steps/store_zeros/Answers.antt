@@ -1,6 +1,6 @@
 use Rattle.std.proofs.Common.{List, get_or, ap, subst, ◌∙◌}
 use Rattle.pm_words.specs.Word.{Word}
-use Rattle.tr_types.specs.Inner.{made_all, IsCut}
+use Rattle.kern_model.specs.Inner.{made_all, IsCut}
 use Rattle.kern_commit.specs.Pages.{page_zeros}
 use Rattle.kern_commit.proofs.CutLemmas.{cut_in_pages, pages_more, where_err}
 use Rattle.kern_commit.proofs.steps.store_zeros.Goals as goal

@@ -1,6 +1,6 @@
 use Rattle.std.proofs.Common.{◌≡◌, length, take}
 use Rattle.std.specs.List.{flat_map}
-use Rattle.tr_types.specs.Inner.{made_all}
+use Rattle.kern_model.specs.Inner.{made_all}
 use Rattle.kern_commit.specs.Pages.{page_zeros}
 use Rattle.kern_commit.proofs.steps.store_zeros.Given as goal
 

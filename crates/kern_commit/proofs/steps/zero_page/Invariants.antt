@@ -1,8 +1,8 @@
 use Rattle.std.proofs.Common.{◌≡◌, length, map}
 use Rattle.std.specs.List.{range_with_len}
 use Rattle.zo_layout.specs.Layout.{page_at, word_of}
-use Rattle.tr_types.specs.declared.inner.Inner.TheVariants.{Store}
-use Rattle.tr_types.specs.Inner.{made_all}
+use Rattle.kern_model.specs.declared.inner.Inner.TheVariants.{Store}
+use Rattle.kern_model.specs.Inner.{made_all}
 use Rattle.kern_commit.proofs.steps.zero_page.Given as goal
 
 abbrev pub invariant-loop-i : goal.invariant-loop-i

@@ -5,10 +5,10 @@ use Rattle.std.proofs.lemmas.List.{append_assoc}
 use Rattle.std.proofs.lemmas.List.Sums.{fold-append}
 use Rattle.std.proofs.lemmas.Result.{on_ok_weaker, on_err_weaker}
 use Rattle.pm_words.specs.Word.{Word}
-use Rattle.tr_types.specs.declared.inner.Inner.{Inner}
-use Rattle.tr_types.specs.declared.inner.Inner.TheVariants.{Fence}
-use Rattle.tr_types.specs.Inner.{made, made_all, IsCut}
-use Rattle.tr_types.specs.KernelCalls.{zero_events}
+use Rattle.kern_model.specs.declared.inner.Inner.{Inner}
+use Rattle.kern_model.specs.declared.inner.Inner.TheVariants.{Fence}
+use Rattle.kern_model.specs.Inner.{made, made_all, IsCut}
+use Rattle.kern_model.specs.KernelCalls.{zero_events}
 use Rattle.kern_commit.specs.Pages.{page_zeros, page_flushes}
 use Rattle.kern_commit.proofs.CutLemmas.{cut_before, cut_after, some_zeroed, where_err}
 use Rattle.kern_commit.proofs.steps.zero_pages.Goals as goal

@@ -3,8 +3,8 @@ use Rattle.std.proofs.lemmas.Result.{IfOk-weaker}
 use Rattle.zo_layout.specs.Layout.{committed_word}
 use Rattle.pm_words.specs.Word.{Word}
 use Rattle.pm_words.specs.Memory.{all_durable}
-use Rattle.tr_types.specs.NewImage.{new_image}
-use Rattle.tr_types.specs.JournalLaws.{IsDurable}
+use Rattle.kern_model.specs.NewImage.{new_image}
+use Rattle.kern_model.specs.JournalLaws.{IsDurable}
 use Rattle.kern_commit.proofs.NewLemmas.{idle_new}
 use Rattle.kern_commit.proofs.tests.small.Goals as goal
 

@@ -1,4 +1,4 @@
-use Rattle.tr_types.proofs.EventLemmas.{one_pair_more}
+use Rattle.kern_model.proofs.EventLemmas.{one_pair_more}
 use Rattle.kern_journal.proofs.events.journal_words.Goals as goal
 
 pub loop-i-preserved : goal.loop-i-preserved

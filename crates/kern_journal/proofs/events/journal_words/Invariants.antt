@@ -1,5 +1,5 @@
 use Rattle.std.proofs.Common.{◌≡◌, take}
-use Rattle.tr_types.specs.Inner.{journal_words}
+use Rattle.kern_model.specs.Inner.{journal_words}
 use Rattle.kern_journal.proofs.events.journal_words.Given as goal
 
 abbrev pub invariant-loop-i : goal.invariant-loop-i

@@ -1,5 +1,5 @@
 use Rattle.std.proofs.Common.{◌≡◌, ◌++◌, take}
-use Rattle.tr_types.specs.Inner.{flushes_at}
+use Rattle.kern_model.specs.Inner.{flushes_at}
 use Rattle.kern_journal.proofs.events.push_flushes.Given as goal
 
 abbrev pub invariant-loop-addr : goal.invariant-loop-addr

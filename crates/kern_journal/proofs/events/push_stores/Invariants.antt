@@ -1,5 +1,5 @@
 use Rattle.std.proofs.Common.{◌≡◌, ◌++◌, take}
-use Rattle.tr_types.specs.Inner.{stores_of}
+use Rattle.kern_model.specs.Inner.{stores_of}
 use Rattle.kern_journal.proofs.events.push_stores.Given as goal
 
 abbrev pub invariant-loop-addr : goal.invariant-loop-addr

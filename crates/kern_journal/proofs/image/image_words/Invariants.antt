@@ -1,6 +1,6 @@
 use Rattle.std.proofs.Common.{◌≡◌, ◌+◌, ◌*◌, map}
 use Rattle.std.specs.List.{range_with_len}
-use Rattle.tr_types.specs.NewImage.{new_word}
+use Rattle.kern_model.specs.NewImage.{new_word}
 use Rattle.kern_journal.proofs.image.image_words.Given as goal
 
 abbrev pub invariant-loop-i : goal.invariant-loop-i

@@ -1,7 +1,7 @@
 use Rattle.std.proofs.Common.{ℕ, sym, subst, length, get_or}
 use Rattle.std.proofs.lemmas.List.Elements.{All-get_or}
-use Rattle.tr_types.specs.declared.inner.Inner.TheVariants.{Store}
-use Rattle.tr_types.specs.Inner.{HasAddress}
+use Rattle.kern_model.specs.declared.inner.Inner.TheVariants.{Store}
+use Rattle.kern_model.specs.Inner.{HasAddress}
 use Rattle.kern_journal.proofs.inner.make_all.Goals as goal
 
 pub make-requires : goal.make-requires

@@ -1,5 +1,5 @@
 use Rattle.std.proofs.Common.{◌≡◌, length, take}
-use Rattle.tr_types.specs.Inner.{made_all}
+use Rattle.kern_model.specs.Inner.{made_all}
 use Rattle.kern_journal.proofs.inner.make_all.Given as goal
 
 abbrev pub invariant-loop-event : goal.invariant-loop-event

@@ -1,6 +1,6 @@
 use Rattle.std.proofs.Common.{arith}
 use Rattle.std.proofs.lemmas.List.FromFn.{map-range_with_len_more}
-use Rattle.tr_types.specs.Inner.{pair_at}
+use Rattle.kern_model.specs.Inner.{pair_at}
 use Rattle.kern_journal.proofs.journal.committed.Goals as goal
 
 pub loop-i-preserved : goal.loop-i-preserved

@@ -2,9 +2,9 @@ use Rattle.std.proofs.Common.{rules, ◌≡◌, ◌≤◌, ◌/◌, length, arit
 use Rattle.std.proofs.lemmas.Result.{IfOk-weaker}
 use Rattle.std.proofs.lemmas.List.Elements.{All-same}
 use Rattle.zo_layout.specs.Layout.{pair_capacity}
-use Rattle.tr_types.specs.Inner.{HasAddress}
-use Rattle.tr_types.specs.Inner.{journal_events}
-use Rattle.tr_types.proofs.EventLemmas.{journal_has}
+use Rattle.kern_model.specs.Inner.{HasAddress}
+use Rattle.kern_model.specs.Inner.{journal_events}
+use Rattle.kern_model.proofs.EventLemmas.{journal_has}
 use Rattle.kern_journal.proofs.journal.events_for.Goals as goal
 
 pub returns-clause-inside : goal.returns-clause-inside

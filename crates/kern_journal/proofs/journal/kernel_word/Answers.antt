@@ -1,7 +1,7 @@
 use Rattle.std.proofs.Common.{◌∙◌}
 use Rattle.pm_words.specs.Memory.{word_at}
-use Rattle.tr_types.specs.Inner.{pair_at}
-use Rattle.tr_types.proofs.EventLemmas.{read_named, read_other}
+use Rattle.kern_model.specs.Inner.{pair_at}
+use Rattle.kern_model.proofs.EventLemmas.{read_named, read_other}
 use Rattle.kern_journal.proofs.journal.kernel_word.Goals as goal
 use Rattle.kern_journal.proofs.journal.kernel_word.Goals.{then-at-addr, else-at-addr}
 

@@ -1,7 +1,7 @@
 use Rattle.std.proofs.Common.{◌≡◌, map}
 use Rattle.std.specs.List.{range_with_len}
 use Rattle.pm_words.specs.Memory.{word_at}
-use Rattle.tr_types.specs.Inner.{pair_at, laid_over}
+use Rattle.kern_model.specs.Inner.{pair_at, laid_over}
 use Rattle.kern_journal.proofs.journal.kernel_word.Given as goal
 
 abbrev pub invariant-loop-i : goal.invariant-loop-i

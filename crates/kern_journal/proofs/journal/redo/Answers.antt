@@ -2,10 +2,10 @@ use Rattle.std.proofs.Common.{◌≡◌, ℕ, List, length, ap, subst, ◌∙◌
 use Rattle.std.proofs.lemmas.Result.{on_ok_weaker, on_err_weaker}
 use Rattle.std.proofs.lemmas.List.Elements.{All-weaker, All-same}
 use Rattle.pm_words.specs.Memory.{IsAddress}
-use Rattle.tr_types.specs.declared.inner.Inner.{Inner}
-use Rattle.tr_types.specs.Inner.{HasAddress, made_all, IsCut}
-use Rattle.tr_types.specs.Inner.{IsHome, committed, finish_any, redo_events}
-use Rattle.tr_types.proofs.EventLemmas.{finish_any_has}
+use Rattle.kern_model.specs.declared.inner.Inner.{Inner}
+use Rattle.kern_model.specs.Inner.{HasAddress, made_all, IsCut}
+use Rattle.kern_model.specs.Inner.{IsHome, committed, finish_any, redo_events}
+use Rattle.kern_model.proofs.EventLemmas.{finish_any_has}
 use Rattle.kern_journal.proofs.journal.redo.Goals as goal
 
 pub make_all-requires : goal.make_all-requires

@@ -1,4 +1,4 @@
-use Rattle.tr_types.proofs.FinishLemmas.{applied}
+use Rattle.kern_model.proofs.FinishLemmas.{applied}
 use Rattle.kern_journal.proofs.laws.apply_law.Goals as goal
 
 pub returns : goal.returns

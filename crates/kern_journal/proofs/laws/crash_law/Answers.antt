@@ -1,4 +1,4 @@
-use Rattle.tr_types.proofs.CrashLemmas.{crash_anywhere}
+use Rattle.kern_model.proofs.CrashLemmas.{crash_anywhere}
 use Rattle.kern_journal.proofs.laws.crash_law.Goals as goal
 
 pub returns : goal.returns

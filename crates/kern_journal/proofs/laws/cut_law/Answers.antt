@@ -1,4 +1,4 @@
-use Rattle.tr_types.proofs.CrashLemmas.{cut_anywhere}
+use Rattle.kern_model.proofs.CrashLemmas.{cut_anywhere}
 use Rattle.kern_journal.proofs.laws.cut_law.Goals as goal
 
 pub returns : goal.returns

@@ -1,4 +1,4 @@
-use Rattle.tr_types.proofs.FinishLemmas.{finished, idle_read}
+use Rattle.kern_model.proofs.FinishLemmas.{finished, idle_read}
 use Rattle.kern_journal.proofs.laws.view_law.Goals as goal
 
 pub returns : goal.returns

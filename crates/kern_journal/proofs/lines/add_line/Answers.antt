@@ -1,5 +1,5 @@
 use Rattle.std.proofs.Common.{◌∙◌}
-use Rattle.tr_types.proofs.LineLemmas.{where_found, where_missing}
+use Rattle.kern_model.proofs.LineLemmas.{where_found, where_missing}
 use Rattle.kern_journal.proofs.lines.add_line.Goals as goal
 
 pub returns-in-Ok : goal.returns-in-Ok

@@ -1,6 +1,6 @@
 use Rattle.std.proofs.Common.{List, ℕ, sym, subst, take}
-use Rattle.tr_types.specs.Inner.{IsAscending}
-use Rattle.tr_types.proofs.LineLemmas.{ascending_lines}
+use Rattle.kern_model.specs.Inner.{IsAscending}
+use Rattle.kern_model.proofs.LineLemmas.{ascending_lines}
 use Rattle.kern_journal.proofs.lines.lines_of.Goals as goal
 
 pub add_line-requires : goal.add_line-requires

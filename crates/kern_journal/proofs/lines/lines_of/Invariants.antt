@@ -1,5 +1,5 @@
 use Rattle.std.proofs.Common.{◌≡◌, take}
-use Rattle.tr_types.specs.Inner.{lines_of}
+use Rattle.kern_model.specs.Inner.{lines_of}
 use Rattle.kern_journal.proofs.lines.lines_of.Given as goal
 
 abbrev pub invariant-loop-addr : goal.invariant-loop-addr

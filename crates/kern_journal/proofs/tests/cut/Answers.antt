@@ -2,9 +2,9 @@ use Rattle.std.proofs.Common.{List, [], refl, sym, subst, take}
 use Rattle.pm_words.specs.Word.{Word}
 use Rattle.pm_words.specs.Crash.{MayLeave}
 use Rattle.pm_words.proofs.CrashLemmas.{crash_leaves}
-use Rattle.tr_types.specs.Inner.{made_all}
-use Rattle.tr_types.specs.Inner.{journal_events}
-use Rattle.tr_types.proofs.CrashLemmas.{crash_anywhere}
+use Rattle.kern_model.specs.Inner.{made_all}
+use Rattle.kern_model.specs.Inner.{journal_events}
+use Rattle.kern_model.proofs.CrashLemmas.{crash_anywhere}
 use Rattle.kern_journal.proofs.tests.cut.Goals as goal
 
 pub returns-clause-readable : goal.returns-clause-readable

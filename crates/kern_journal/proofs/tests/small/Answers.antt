@@ -2,9 +2,9 @@ use Rattle.std.proofs.Common.{◌≡◌, List, arith}
 use Rattle.std.proofs.lemmas.Result.{IfOk-weaker}
 use Rattle.pm_words.specs.Word.{Word}
 use Rattle.pm_words.specs.Memory.{all_durable}
-use Rattle.tr_types.specs.NewImage.{new_image}
-use Rattle.tr_types.specs.Inner.{IsReadable}
-use Rattle.tr_types.specs.JournalLaws.{IsReady}
+use Rattle.kern_model.specs.NewImage.{new_image}
+use Rattle.kern_model.specs.Inner.{IsReadable}
+use Rattle.kern_model.specs.JournalLaws.{IsReady}
 use Rattle.kern_journal.proofs.NewLemmas.{readable_new, ready_new}
 use Rattle.kern_journal.proofs.tests.small.Goals as goal
 

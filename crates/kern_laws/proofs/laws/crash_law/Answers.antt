@@ -1,4 +1,4 @@
-use Rattle.tr_types.specs.KernelCalls.{row_of}
+use Rattle.kern_model.specs.KernelCalls.{row_of}
 use Rattle.kern_laws.proofs.CrashTables.{kernel_survives}
 use Rattle.kern_laws.proofs.CrashSteady.{steady_mounted, steady_after}
 use Rattle.kern_laws.proofs.laws.crash_law.Goals as goal
@@ -13,7 +13,7 @@ returns-clause-kernel c = λ callers words holders thread now kcall working call
     let row = row_of callers words holders thread now kcall in
     let keeps = c.tables_law.ensures callers words holders thread now kcall working caller is due in
     let survives = c.crash_law.ensures.inside words row.granted row.pairs count cuts left after keeps.may leave come in
-    kernel_survives words holders row working keeps steady _ survives.whole_or_none (steady_mounted words row.granted row.pairs count cuts _ left after working.size leave come survives)
+    kernel_survives words holders row working keeps steady count left _ survives.whole_or_none (steady_mounted words row.granted row.pairs count cuts _ left after working.size leave come survives)
 
 pub returns-clause-steady : goal.returns-clause-steady
 returns-clause-steady c = λ callers words holders thread now kcall working caller is due steady.

@@ -1,7 +1,7 @@
 use Rattle.std.proofs.Common.{◌<◌, nat_eq, ◌∙◌, ℕ}
 use Rattle.std.proofs.lemmas.List.Elements.{All-same, All-take}
-use Rattle.tr_types.specs.KernelView.{pages_of}
-use Rattle.tr_types.specs.Kernel.{kernel_owner, coffer_pages}
+use Rattle.kern_model.specs.KernelView.{pages_of}
+use Rattle.kern_model.specs.Kernel.{kernel_owner, coffer_pages}
 use Rattle.kern_owner.proofs.RangeLemmas.{within}
 use Rattle.kern_owner.proofs.changes.grant.Goals as goal
 

@@ -1,5 +1,5 @@
 use Rattle.std.proofs.Common.{◌≡◌, take}
-use Rattle.tr_types.specs.KernelView.{pages_of}
+use Rattle.kern_model.specs.KernelView.{pages_of}
 use Rattle.kern_owner.specs.Owners.{owner_pairs}
 use Rattle.kern_owner.proofs.changes.owner_pairs.Given as goal
 

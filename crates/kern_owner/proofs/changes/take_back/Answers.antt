@@ -2,7 +2,7 @@ use Rattle.std.proofs.Common.{◌<◌, ◌≡◌, ◌∙◌, ℕ, List, IfOk, su
 use Rattle.std.specs.List.Sorted.{IsPermutation}
 use Rattle.std.proofs.lemmas.List.Elements.{All-same}
 use Rattle.std.proofs.lemmas.List.Sorted.{All-permutation}
-use Rattle.tr_types.specs.KernelView.{pages_of}
+use Rattle.kern_model.specs.KernelView.{pages_of}
 use Rattle.kern_owner.specs.Owners.{owner_pairs}
 use Rattle.kern_owner.proofs.AmongLemmas.{sorted_is}
 use Rattle.kern_owner.proofs.changes.take_back.Goals as goal

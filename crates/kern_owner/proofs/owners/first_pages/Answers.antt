@@ -1,8 +1,8 @@
 use Rattle.std.proofs.Common.{◌≡◌, ◌∙◌, ℕ, Vec, Global, List, length, nat_eq, sym, ap, arith}
 use Rattle.std.proofs.lemmas.Bool.{eq-eqb, ne_eqb}
 use Rattle.std.proofs.lemmas.List.{length_push, take_all}
-use Rattle.tr_types.specs.KernelView.{pages_of}
-use Rattle.tr_types.specs.Kernel.{kernel_owner, coffer_pages}
+use Rattle.kern_model.specs.KernelView.{pages_of}
+use Rattle.kern_model.specs.Kernel.{kernel_owner, coffer_pages}
 use Rattle.kern_owner.proofs.RangeLemmas.{below, first_below, gathered, gathered_not}
 use Rattle.kern_owner.proofs.owners.first_pages.Goals as goal
 use Rattle.kern_owner.proofs.owners.first_pages.Goals.{then-owner-id+in_ok-push, else-owner-id}

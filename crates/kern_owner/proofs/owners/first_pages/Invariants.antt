@@ -1,5 +1,5 @@
 use Rattle.std.proofs.Common.{◌≡◌, ◌≤◌, length, nat_eq}
-use Rattle.tr_types.specs.Kernel.{kernel_owner}
+use Rattle.kern_model.specs.Kernel.{kernel_owner}
 use Rattle.kern_owner.proofs.RangeLemmas.{below}
 use Rattle.kern_owner.proofs.owners.first_pages.Given as goal
 

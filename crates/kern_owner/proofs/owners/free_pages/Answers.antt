@@ -1,6 +1,6 @@
 use Rattle.std.proofs.Common.{◌≤◌, ◌≡◌, length, nat_eq, arith}
-use Rattle.tr_types.specs.KernelView.{pages_of}
-use Rattle.tr_types.specs.Kernel.{kernel_owner, spare_pages}
+use Rattle.kern_model.specs.KernelView.{pages_of}
+use Rattle.kern_model.specs.Kernel.{kernel_owner, spare_pages}
 use Rattle.kern_owner.proofs.RangeLemmas.{below_length}
 use Rattle.kern_owner.proofs.owners.free_pages.Goals as goal
 

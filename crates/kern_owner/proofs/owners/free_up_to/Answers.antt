@@ -1,7 +1,7 @@
 use Rattle.std.proofs.Common.{◌≤◌, ◌∙◌, length, nat_eq, sym, arith}
 use Rattle.std.proofs.lemmas.Bool.{eq-eqb, ne_eqb}
-use Rattle.tr_types.specs.KernelView.{pages_of}
-use Rattle.tr_types.specs.Kernel.{kernel_owner, spare_pages}
+use Rattle.kern_model.specs.KernelView.{pages_of}
+use Rattle.kern_model.specs.Kernel.{kernel_owner, spare_pages}
 use Rattle.kern_owner.proofs.RangeLemmas.{below_rises, counted, counted_not}
 use Rattle.kern_owner.proofs.owners.free_up_to.Goals as goal
 use Rattle.kern_owner.proofs.owners.free_up_to.Goals.{then-owner-eq-NOBODY, else-owner-eq-NOBODY}

@@ -1,8 +1,8 @@
 use Rattle.std.proofs.Common.{◌≡◌, ◌∙◌, ℕ, ap, arith}
 use Rattle.zo_layout.specs.Layout.{owner_word}
-use Rattle.tr_types.specs.KernelView.{pages_of}
-use Rattle.tr_types.specs.Journal.{kernel_word}
-use Rattle.tr_types.specs.Kernel.{kernel_owner}
+use Rattle.kern_model.specs.KernelView.{pages_of}
+use Rattle.kern_model.specs.Journal.{kernel_word}
+use Rattle.kern_model.specs.Kernel.{kernel_owner}
 use Rattle.kern_owner.proofs.SoundLemmas.{owner_fits}
 use Rattle.kern_owner.proofs.owners.owner.Goals as goal
 

@@ -1,7 +1,7 @@
 use Rattle.std.proofs.Common.{◌≤◌, ◌≡◌, ℕ, List, length, nat_eq, arith, IfOk, subst}
 use Rattle.std.proofs.lemmas.List.{take_all}
-use Rattle.tr_types.specs.KernelView.{pages_of}
-use Rattle.tr_types.specs.Kernel.{kernel_owner, coffer_pages}
+use Rattle.kern_model.specs.KernelView.{pages_of}
+use Rattle.kern_model.specs.Kernel.{kernel_owner, coffer_pages}
 use Rattle.kern_owner.proofs.RangeLemmas.{below_length}
 use Rattle.kern_owner.proofs.owners.pages_of.Goals as goal
 

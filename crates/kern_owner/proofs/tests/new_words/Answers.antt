@@ -2,9 +2,9 @@ use Rattle.std.proofs.Common.{◌≡◌, List, sym, subst, arith}
 use Rattle.std.proofs.lemmas.Result.{IfOk-weaker}
 use Rattle.pm_words.specs.Word.{Word}
 use Rattle.pm_words.specs.Memory.{all_durable}
-use Rattle.tr_types.specs.NewImage.{new_image}
-use Rattle.tr_types.specs.KernelRules.{IsSoundKernel}
-use Rattle.tr_types.proofs.NewKernel.{new_is_sound}
+use Rattle.kern_model.specs.NewImage.{new_image}
+use Rattle.kern_model.specs.KernelRules.{IsSoundKernel}
+use Rattle.kern_model.proofs.NewKernel.{new_is_sound}
 use Rattle.kern_owner.proofs.tests.new_words.Goals as goal
 
 pub returns-clause-sound : goal.returns-clause-sound

@@ -1,11 +1,11 @@
 use Rattle.std.proofs.Common.{◌≡◌, List, sym, ap, refl, subst, ◌∙◌, arith}
 use Rattle.pm_words.specs.Word.{Word}
 use Rattle.pm_words.specs.Memory.{all_durable, store_at}
-use Rattle.tr_types.specs.NewImage.{new_image}
-use Rattle.tr_types.specs.Journal.{kernel_word}
-use Rattle.tr_types.specs.KernelRules.{IsSoundKernel}
-use Rattle.tr_types.proofs.FreePages.{size_opened}
-use Rattle.tr_types.proofs.NewKernel.{new_is_sound, new_committed, new_tables, root_stands}
+use Rattle.kern_model.specs.NewImage.{new_image}
+use Rattle.kern_model.specs.Journal.{kernel_word}
+use Rattle.kern_model.specs.KernelRules.{IsSoundKernel}
+use Rattle.kern_model.proofs.FreePages.{size_opened}
+use Rattle.kern_model.proofs.NewKernel.{new_is_sound, new_committed, new_tables, root_stands}
 use Rattle.kern_owner.proofs.PendingLemmas.{with_pair, pending_is_sound}
 use Rattle.kern_owner.proofs.tests.words_with_a_pair.Goals as goal
 

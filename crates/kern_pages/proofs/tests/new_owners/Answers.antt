@@ -1,7 +1,7 @@
 use Rattle.std.proofs.Common.{◌≡◌, ◌∙◌, ℕ, ◌<◌, ◌≤◌, List, length, slice_index, sym, ap, subst, arith}
 use Rattle.std.proofs.lemmas.Result.{IfOk-weaker}
 use Rattle.zo_layout.specs.Layout.{kernel_pages}
-use Rattle.tr_types.specs.KernelView.{pages_of}
+use Rattle.kern_model.specs.KernelView.{pages_of}
 use Rattle.kern_pages.specs.Owners.{owners_of}
 use Rattle.kern_pages.proofs.TellsLemmas.{tells}
 use Rattle.kern_pages.proofs.OuterLemmas.{outer}

@@ -1,5 +1,5 @@
 use Rattle.std.proofs.Common.{◌≡◌, drop}
-use Rattle.tr_types.specs.KernelCalls as calls
+use Rattle.kern_model.specs.KernelCalls as calls
 use Rattle.kern_plans.proofs.checks.bad_address_page.Given as goal
 
 abbrev pub invariant-loop-addr : goal.invariant-loop-addr

@@ -1,6 +1,6 @@
 use Rattle.std.proofs.Common.{[], ◌∷◌, not, refl}
 use Rattle.std.proofs.lemmas.Result.{err_from_is_err_and}
-use Rattle.tr_types.specs.KernelCalls as calls
+use Rattle.kern_model.specs.KernelCalls as calls
 use Rattle.tr_types.specs.declared.kernel_call.KernAnswer.TheVariants.{NotHeld, NotEmptyList}
 use Rattle.kern_roots.specs.declared.types.Root.{Root}
 use Rattle.kern_plans.proofs.CheckLemmas.{stopped}

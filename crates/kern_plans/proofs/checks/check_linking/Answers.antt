@@ -1,7 +1,7 @@
 use Rattle.std.proofs.Common.{[], ◌∷◌, refl}
 use Rattle.std.proofs.lemmas.Result.{err_from_is_err_and}
-use Rattle.tr_types.specs.KernelCalls as calls
-use Rattle.kern_plans.specs.Parts.{link_of, guard_of}
+use Rattle.kern_model.specs.KernelCalls as calls
+use Rattle.kern_plans.specs.Links.{link_of, guard_of}
 use Rattle.kern_plans.proofs.CheckLemmas.{stopped}
 use Rattle.kern_plans.proofs.checks.check_linking.Goals as goal
 

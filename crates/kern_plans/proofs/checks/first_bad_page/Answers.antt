@@ -1,7 +1,7 @@
 use Rattle.std.proofs.Common.{◌∙◌, ℕ, not, get_or, sym, ap, arith}
 use Rattle.std.specs.Prelude.{◌||◌, nat_lt, nat_eq}
 use Rattle.std.specs.List.{list_any}
-use Rattle.tr_types.specs.KernelCalls as calls
+use Rattle.kern_model.specs.KernelCalls as calls
 use Rattle.kern_plans.proofs.CheckLemmas.{found_here, found_later}
 use Rattle.kern_plans.proofs.checks.first_bad_page.Goals as goal
 

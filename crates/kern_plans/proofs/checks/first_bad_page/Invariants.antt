@@ -1,6 +1,6 @@
 use Rattle.std.proofs.Common.{◌≡◌, drop}
 use Rattle.std.specs.Prelude.{find}
-use Rattle.tr_types.specs.KernelCalls as calls
+use Rattle.kern_model.specs.KernelCalls as calls
 use Rattle.kern_plans.proofs.checks.first_bad_page.Given as goal
 
 abbrev pub invariant-loop-page : goal.invariant-loop-page

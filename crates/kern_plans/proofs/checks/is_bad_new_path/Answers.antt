@@ -1,9 +1,9 @@
 use Rattle.std.proofs.Common.{◌∙◌, ℕ, ◌≤◌, List, length, ap, arith}
 use Rattle.std.specs.Prelude.{option_map}
 use Rattle.pm_words.specs.Word.{Word}
-use Rattle.tr_types.specs.Kernel.{coffers}
-use Rattle.tr_types.specs.KernelTables.{Coffer}
-use Rattle.tr_types.specs.PathMap.{coffer_above}
+use Rattle.kern_model.specs.Kernel.{coffers}
+use Rattle.kern_model.specs.KernelTables.{Coffer}
+use Rattle.kern_model.specs.PathMap.{coffer_above}
 use Rattle.kern_plans.proofs.DirectoryLemmas.{bad_by_size, bad_by_length, bad_by_place}
 use Rattle.kern_plans.proofs.checks.is_bad_new_path.Goals as goal
 use Rattle.kern_plans.proofs.checks.is_bad_new_path.Goals.{then-len-lt2-via-then-len-lt2, then-len-lt2-via-else-len-lt2+then-len-gt-MOST_PATH_BYTES}

@@ -1,6 +1,6 @@
 use Rattle.std.proofs.Common.{sym, subst, List}
 use Rattle.pm_words.specs.Word.{Word}
-use Rattle.tr_types.specs.KernelRules.{IsSoundKernel}
+use Rattle.kern_model.specs.KernelRules.{IsSoundKernel}
 use Rattle.kern_plans.proofs.NamedLemmas.{is_text}
 use Rattle.kern_plans.proofs.checks.is_parent.Goals as goal
 

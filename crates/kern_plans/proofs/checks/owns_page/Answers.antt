@@ -1,6 +1,6 @@
 use Rattle.std.proofs.Common.{◌∙◌, ℕ, List, slice_index, ap, arith}
 use Rattle.pm_words.specs.Word.{Word}
-use Rattle.tr_types.specs.KernelCalls as calls
+use Rattle.kern_model.specs.KernelCalls as calls
 use Rattle.kern_plans.proofs.CheckLemmas.{owned, owners_size}
 use Rattle.kern_plans.proofs.checks.owns_page.Goals as goal
 

@@ -1,5 +1,5 @@
 use Rattle.std.proofs.Common.{◌≡◌, ◌++◌, take}
-use Rattle.tr_types.specs.KernelCalls as calls
+use Rattle.kern_model.specs.KernelCalls as calls
 use Rattle.kern_plans.proofs.giving.pass_pages.Given as goal
 
 abbrev pub invariant-loop-page : goal.invariant-loop-page

@@ -1,7 +1,7 @@
 use Rattle.std.proofs.Common.{◌∙◌, ℕ, sym, ap}
-use Rattle.tr_types.specs.KernelView.{pages_of}
-use Rattle.tr_types.specs.Journal.{kernel_word}
-use Rattle.tr_types.specs.PathMap.{added_pairs}
+use Rattle.kern_model.specs.KernelView.{pages_of}
+use Rattle.kern_model.specs.Journal.{kernel_word}
+use Rattle.kern_model.specs.PathMap.{added_pairs}
 use Rattle.tr_types.specs.declared.kernel_call.KernAnswer.TheVariants.{Taken, TooMany}
 use Rattle.kern_roots.specs.Changes.{new_coffer}
 use Rattle.kern_plans.proofs.RowLemmas.{skips, lets_pass}

@@ -1,7 +1,7 @@
 use Rattle.std.proofs.Common.{◌∙◌, ap}
-use Rattle.tr_types.specs.PathMap as map
-use Rattle.tr_types.specs.KernelView.{pages_of}
-use Rattle.tr_types.specs.Journal.{kernel_word}
+use Rattle.kern_model.specs.PathMap as map
+use Rattle.kern_model.specs.KernelView.{pages_of}
+use Rattle.kern_model.specs.Journal.{kernel_word}
 use Rattle.zo_layout.specs.Layout.{path_bucket}
 use Rattle.kern_roots.specs.Changes.{new_coffer}
 use Rattle.kern_roots.proofs.ChangingPairs.{added_are}

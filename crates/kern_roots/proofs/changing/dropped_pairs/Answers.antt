@@ -1,9 +1,9 @@
 use Rattle.std.proofs.Common.{◌≡◌, ◌∙◌, ℕ, ap}
 use Rattle.zo_layout.specs.Layout.{bucket_of, path_bucket}
-use Rattle.tr_types.specs.KernelView.{pages_of}
-use Rattle.tr_types.specs.Journal.{kernel_word}
-use Rattle.tr_types.specs.KernelTables.{path_in, chain_in}
-use Rattle.tr_types.specs.PathMap.{leads_to, leading_word}
+use Rattle.kern_model.specs.KernelView.{pages_of}
+use Rattle.kern_model.specs.Journal.{kernel_word}
+use Rattle.kern_model.specs.KernelTables.{path_in, chain_in}
+use Rattle.kern_model.specs.PathMap.{leads_to, leading_word}
 use Rattle.kern_roots.proofs.ChangingPairs.{dropped_are}
 use Rattle.kern_roots.proofs.changing.dropped_pairs.Goals as goal
 

@@ -1,11 +1,11 @@
 use Rattle.std.proofs.Common.{◌≡◌, ◌⊎◌, inl, inr, ℕ, ◌<◌, ◌≤◌, ◌-◌, List, length, Option, Some, None, sym, ap, ◌∙◌, arith, refl, true}
 use Rattle.std.specs.Prelude.{option_map}
 use Rattle.pm_words.specs.Word.{Word}
-use Rattle.tr_types.specs.Kernel.{coffers}
-use Rattle.tr_types.specs.KernelRules.{IsSoundKernel}
-use Rattle.tr_types.specs.KernelTables.{Coffer}
+use Rattle.kern_model.specs.Kernel.{coffers}
+use Rattle.kern_model.specs.KernelRules.{IsSoundKernel}
+use Rattle.kern_model.specs.KernelTables.{Coffer}
 use Rattle.tr_types.specs.Paths.{is_path_text}
-use Rattle.tr_types.specs.PathMap.{coffer_above}
+use Rattle.kern_model.specs.PathMap.{coffer_above}
 use Rattle.kern_roots.specs.Entries.{coffer_of}
 use Rattle.kern_roots.specs.Fronts.{coffer_within}
 use Rattle.kern_roots.proofs.ReadingTexts.{slash, path_size}

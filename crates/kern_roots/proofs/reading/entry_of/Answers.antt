@@ -1,8 +1,8 @@
 use Rattle.std.proofs.Common.{Option, Some, sym, ap, ◌∙◌}
 use Rattle.std.specs.Prelude.{option_map}
-use Rattle.tr_types.specs.KernelView.{pages_of}
-use Rattle.tr_types.specs.Journal.{kernel_word}
-use Rattle.tr_types.specs.KernelTables.{Coffer}
+use Rattle.kern_model.specs.KernelView.{pages_of}
+use Rattle.kern_model.specs.Journal.{kernel_word}
+use Rattle.kern_model.specs.KernelTables.{Coffer}
 use Rattle.kern_roots.specs.Reading.{root_of}
 use Rattle.kern_roots.specs.declared.types.Root.{Root}
 use Rattle.kern_roots.proofs.ReadingCoffers.{coffer_is, coffer_isnt}

@@ -1,7 +1,7 @@
 use Rattle.std.proofs.Common.{ℕ, List, ap, ◌∙◌, sym}
 use Rattle.std.specs.Prelude.{option_map}
-use Rattle.tr_types.specs.Kernel.{coffers}
-use Rattle.tr_types.specs.PathMap.{coffer_of_path}
+use Rattle.kern_model.specs.Kernel.{coffers}
+use Rattle.kern_model.specs.PathMap.{coffer_of_path}
 use Rattle.tr_types.specs.Paths.{is_path_text}
 use Rattle.kern_roots.specs.Reading.{found_of}
 use Rattle.kern_roots.proofs.ReadingChildren.{found_is}

@@ -1,9 +1,9 @@
 use Rattle.std.proofs.Common.{List, ℕ, Option, Some, sym, ap, ◌∙◌, refl, subst}
 use Rattle.std.specs.Prelude.{option_map}
 use Rattle.std.proofs.lemmas.Result.{err_from_is_err_and}
-use Rattle.tr_types.specs.KernelView.{pages_of}
-use Rattle.tr_types.specs.Journal.{kernel_word}
-use Rattle.tr_types.specs.KernelTables.{Coffer}
+use Rattle.kern_model.specs.KernelView.{pages_of}
+use Rattle.kern_model.specs.Journal.{kernel_word}
+use Rattle.kern_model.specs.KernelTables.{Coffer}
 use Rattle.kern_roots.specs.Reading.{IsRefused}
 use Rattle.kern_roots.specs.declared.types.RootsFault.TheVariants.{NoCoffer, NoMemory}
 use Rattle.kern_roots.proofs.ReadingCoffers.{coffer_is, coffer_isnt}

@@ -1,5 +1,7 @@
 // Calls that change the pages or the entry of a coffer.
-use super::wrong_lines;
+use super::super::three::THREE;
+use super::NOW;
+use kern_stand::{Table, wrong_calls_in};
 use std::test::Fail;
 
 // Each line but the last two has what refuses the next one as well.
@@ -80,38 +82,44 @@ const RECOVER: &str = "\
 0 map /a read shared -> Mapped(Mapped { id: 2, key: 1, control: 40, root: 41, pages: 2, path_len: 2, perm: Perm { uid: 0, gid: 0, mode: 438 } })
 ";
 
-#[test]
-fn enlarge_refuses_in_the_order_of_its_row(rt: HostRuntime) -> Result<(), Fail> {
-    assert_eq!(rt; wrong_lines(rt.alloc(), &[], ENLARGE_REFUSED)?.as_str(), "");
-    Ok(())
-}
+const TABLES: [Table; 6] = [
+    // enlarge refuses in the order of its row
+    Table {
+        stored: &[],
+        lines: ENLARGE_REFUSED,
+    },
+    // enlarge gives all holders zeroed pages
+    Table {
+        stored: &USED_PAGE,
+        lines: ENLARGE,
+    },
+    // shrink refuses in the order of its row
+    Table {
+        stored: &[],
+        lines: SHRINK_REFUSED,
+    },
+    // shrink takes pages from all holders
+    Table {
+        stored: &[],
+        lines: SHRINK,
+    },
+    // mode is for the sole holder with the right own
+    Table {
+        stored: &[],
+        lines: MODE,
+    },
+    // recover sets a state for the recovery alone
+    Table {
+        stored: &[],
+        lines: RECOVER,
+    },
+];
 
 #[test]
-fn enlarge_gives_all_holders_zeroed_pages(rt: HostRuntime) -> Result<(), Fail> {
-    assert_eq!(rt; wrong_lines(rt.alloc(), &USED_PAGE, ENLARGE)?.as_str(), "");
-    Ok(())
-}
-
-#[test]
-fn shrink_refuses_in_the_order_of_its_row(rt: HostRuntime) -> Result<(), Fail> {
-    assert_eq!(rt; wrong_lines(rt.alloc(), &[], SHRINK_REFUSED)?.as_str(), "");
-    Ok(())
-}
-
-#[test]
-fn shrink_takes_pages_from_all_holders(rt: HostRuntime) -> Result<(), Fail> {
-    assert_eq!(rt; wrong_lines(rt.alloc(), &[], SHRINK)?.as_str(), "");
-    Ok(())
-}
-
-#[test]
-fn mode_is_for_the_sole_holder_with_the_right_own(rt: HostRuntime) -> Result<(), Fail> {
-    assert_eq!(rt; wrong_lines(rt.alloc(), &[], MODE)?.as_str(), "");
-    Ok(())
-}
-
-#[test]
-fn recover_sets_a_state_for_the_recovery_alone(rt: HostRuntime) -> Result<(), Fail> {
-    assert_eq!(rt; wrong_lines(rt.alloc(), &[], RECOVER)?.as_str(), "");
+fn calls_on_one_coffer_follow_their_rows(rt: HostRuntime) -> Result<(), Fail> {
+    assert_eq!(rt;
+        wrong_calls_in(rt.alloc(), &THREE, NOW, &TABLES)?.as_str(),
+        ""
+    );
     Ok(())
 }

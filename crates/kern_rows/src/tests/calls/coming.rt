@@ -1,5 +1,7 @@
 // New coffers. A path as `/x` is in bucket 178, `/a/d` in 102 and `/a/f` in 0.
-use super::{LEASES, wrong_lines};
+use super::super::three::THREE;
+use super::{LEASES, NOW};
+use kern_stand::{Table, wrong_calls_in};
 use std::test::Fail;
 
 // Each line but the last two has what refuses the next one as well.
@@ -86,26 +88,34 @@ const SPLIT: &str = "\
 0 load 41 -> Loaded
 ";
 
-#[test]
-fn new_refuses_in_the_order_of_its_row(rt: HostRuntime) -> Result<(), Fail> {
-    assert_eq!(rt; wrong_lines(rt.alloc(), &LEASES, NEW_REFUSED)?.as_str(), "");
-    Ok(())
-}
+const TABLES: [Table; 4] = [
+    // new refuses in the order of its row
+    Table {
+        stored: &LEASES,
+        lines: NEW_REFUSED,
+    },
+    // new stores an entry and a link
+    Table {
+        stored: &LEASES,
+        lines: NEW,
+    },
+    // split refuses in the order of its row
+    Table {
+        stored: &[],
+        lines: SPLIT_REFUSED,
+    },
+    // split takes pages from all holders
+    Table {
+        stored: &OWN_PAGES,
+        lines: SPLIT,
+    },
+];
 
 #[test]
-fn new_stores_an_entry_and_a_link(rt: HostRuntime) -> Result<(), Fail> {
-    assert_eq!(rt; wrong_lines(rt.alloc(), &LEASES, NEW)?.as_str(), "");
-    Ok(())
-}
-
-#[test]
-fn split_refuses_in_the_order_of_its_row(rt: HostRuntime) -> Result<(), Fail> {
-    assert_eq!(rt; wrong_lines(rt.alloc(), &[], SPLIT_REFUSED)?.as_str(), "");
-    Ok(())
-}
-
-#[test]
-fn split_takes_pages_from_all_holders(rt: HostRuntime) -> Result<(), Fail> {
-    assert_eq!(rt; wrong_lines(rt.alloc(), &OWN_PAGES, SPLIT)?.as_str(), "");
+fn new_coffers_and_splits_follow_their_rows(rt: HostRuntime) -> Result<(), Fail> {
+    assert_eq!(rt;
+        wrong_calls_in(rt.alloc(), &THREE, NOW, &TABLES)?.as_str(),
+        ""
+    );
     Ok(())
 }

@@ -1,7 +1,5 @@
 // The first calls on a new image, at tick 0.
-use super::super::image::{RowFault, image_with};
-use super::super::stand::Stand;
-use std::alloc::Global;
+use kern_stand::{Table, wrong_calls_in};
 use std::test::Fail;
 
 const ENLARGE_THE_ROOT: &str = "\
@@ -16,19 +14,21 @@ const ANOTHERS_COFFER: &str = "\
 2 delete 2 1 162912:0:0 155648:0 -> Denied { right: Right(4), id: 0, path_len: 0 }
 ";
 
-fn wrong_lines(alloc: Global, table: &str) -> Result<String, RowFault> {
-    let words = image_with(alloc, &[], &[])?;
-    Stand::over(alloc, &words, 0)?.wrong_lines(table)
-}
+const TABLES: [Table; 2] = [
+    // the least free pages are given
+    Table {
+        stored: &[],
+        lines: ENLARGE_THE_ROOT,
+    },
+    // a coffer is made once and deleted by its owner alone
+    Table {
+        stored: &[],
+        lines: ANOTHERS_COFFER,
+    },
+];
 
 #[test]
-fn the_least_free_pages_are_given(rt: HostRuntime) -> Result<(), Fail> {
-    assert_eq!(rt; wrong_lines(rt.alloc(), ENLARGE_THE_ROOT)?.as_str(), "");
-    Ok(())
-}
-
-#[test]
-fn a_coffer_is_made_once_and_deleted_by_its_owner_alone(rt: HostRuntime) -> Result<(), Fail> {
-    assert_eq!(rt; wrong_lines(rt.alloc(), ANOTHERS_COFFER)?.as_str(), "");
+fn the_first_calls_follow_their_rows(rt: HostRuntime) -> Result<(), Fail> {
+    assert_eq!(rt; wrong_calls_in(rt.alloc(), &[], 0, &TABLES)?.as_str(), "");
     Ok(())
 }

@@ -1,12 +1,11 @@
 // An image with 256 coffers and no free page. It has 554 pages, of which 41 are the kernel's: its root coffer
 // has the pages 41 and 42, and 43 too, and each of the others, `/1` to `/255`, two of the pages behind.
-ghost use Rattle.std.specs.Prelude.{IfOk};
+ghost use Rattle.std.specs.Prelude.{IfOk, OnOk};
 ghost use Rattle.kern_calls.specs.Calls.{IsMounted};
 
-use super::super::image::RowFault;
-use super::super::stand::Stand;
 use super::NOW;
 use kern_journal::new_image;
+use kern_stand::{RowFault, Stand};
 use std::alloc::Global;
 use std::test::Fail;
 
@@ -51,23 +50,38 @@ fn full_stand(alloc: Global) -> Result<Stand, RowFault>
 {
     let words = new_image(alloc, PAGES)?;
     let mut stand = Stand::over(alloc, &words, NOW)?;
+    fill(alloc, &mut stand)?;
+    Ok(stand)
+}
+
+// Gives the root coffer its third page, and each other coffer its two.
+fn fill(alloc: Global, stand: &mut Stand) -> Result<(), RowFault>
+    requires { IsMounted stand.old.kernel stand.old.words }
+    ensures { OnOk result (IsMounted stand.new.kernel stand.new.words) }
+{
     stand.prepare("0 map / write shared")?;
     stand.prepare("0 enlarge 1 1")?;
     for name in 1..256 {
         let line = format!(in alloc; "0 new 1 /{name} dir 600 174080:0:0 167936:0")?;
         stand.prepare(&line)?;
     }
-    Ok(stand)
+    Ok(())
+}
+
+// The lines of a table that have another outcome over such an image.
+fn wrong_when_full(alloc: Global, table: &str) -> Result<String, RowFault> {
+    let mut stand = full_stand(alloc)?;
+    stand.wrong_lines(table)
 }
 
 #[test]
 fn there_are_at_most_256_coffers(rt: HostRuntime) -> Result<(), Fail> {
-    assert_eq!(rt; full_stand(rt.alloc())?.wrong_lines(FULL)?.as_str(), "");
+    assert_eq!(rt; wrong_when_full(rt.alloc(), FULL)?.as_str(), "");
     Ok(())
 }
 
 #[test]
 fn a_process_has_15_keys(rt: HostRuntime) -> Result<(), Fail> {
-    assert_eq!(rt; full_stand(rt.alloc())?.wrong_lines(ALL_KEYS)?.as_str(), "");
+    assert_eq!(rt; wrong_when_full(rt.alloc(), ALL_KEYS)?.as_str(), "");
     Ok(())
 }

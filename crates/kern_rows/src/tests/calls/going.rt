@@ -1,5 +1,7 @@
 // Coffers that go.
-use super::{LEASES, wrong_lines};
+use super::super::three::THREE;
+use super::{LEASES, NOW};
+use kern_stand::{Table, wrong_calls_in};
 use std::test::Fail;
 
 // Each line has what refuses the next one as well.
@@ -74,29 +76,34 @@ const MERGE: &str = "\
 0 unmap 3 -> NotHeld
 ";
 
+const TABLES: [Table; 4] = [
+    // delete refuses in the order of its row
+    Table {
+        stored: &LEASES,
+        lines: DELETE_REFUSED,
+    },
+    // delete frees the pages and ends the map
+    Table {
+        stored: &LEASES,
+        lines: DELETE,
+    },
+    // merge refuses in the order of its row
+    Table {
+        stored: &[],
+        lines: MERGE_REFUSED,
+    },
+    // merge passes the listed pages alone
+    Table {
+        stored: &THIRD_PAGE,
+        lines: MERGE,
+    },
+];
+
 #[test]
-fn delete_refuses_in_the_order_of_its_row(rt: HostRuntime) -> Result<(), Fail> {
+fn deletes_and_merges_follow_their_rows(rt: HostRuntime) -> Result<(), Fail> {
     assert_eq!(rt;
-        wrong_lines(rt.alloc(), &LEASES, DELETE_REFUSED)?.as_str(),
+        wrong_calls_in(rt.alloc(), &THREE, NOW, &TABLES)?.as_str(),
         ""
     );
-    Ok(())
-}
-
-#[test]
-fn delete_frees_the_pages_and_ends_the_map(rt: HostRuntime) -> Result<(), Fail> {
-    assert_eq!(rt; wrong_lines(rt.alloc(), &LEASES, DELETE)?.as_str(), "");
-    Ok(())
-}
-
-#[test]
-fn merge_refuses_in_the_order_of_its_row(rt: HostRuntime) -> Result<(), Fail> {
-    assert_eq!(rt; wrong_lines(rt.alloc(), &[], MERGE_REFUSED)?.as_str(), "");
-    Ok(())
-}
-
-#[test]
-fn merge_passes_the_listed_pages_alone(rt: HostRuntime) -> Result<(), Fail> {
-    assert_eq!(rt; wrong_lines(rt.alloc(), &THIRD_PAGE, MERGE)?.as_str(), "");
     Ok(())
 }

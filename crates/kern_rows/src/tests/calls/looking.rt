@@ -1,5 +1,7 @@
 // Finding, mapping and unmapping.
-use super::wrong_lines;
+use super::super::three::THREE;
+use super::NOW;
+use kern_stand::{Table, wrong_calls_in};
 use std::test::Fail;
 
 const FIND: &str = "\
@@ -47,26 +49,34 @@ const UNMAP: &str = "\
 0 unmap 1 -> NotHeld
 ";
 
-#[test]
-fn find_refuses_a_path_of_33_names(rt: HostRuntime) -> Result<(), Fail> {
-    assert_eq!(rt; wrong_lines(rt.alloc(), &[], FIND)?.as_str(), "");
-    Ok(())
-}
+const TABLES: [Table; 4] = [
+    // find refuses a path of 33 names
+    Table {
+        stored: &[],
+        lines: FIND,
+    },
+    // map refuses in the order of its row
+    Table {
+        stored: &[],
+        lines: MAP_REFUSED,
+    },
+    // map answers what is mapped
+    Table {
+        stored: &[],
+        lines: MAP,
+    },
+    // unmap ends the threads own map
+    Table {
+        stored: &[],
+        lines: UNMAP,
+    },
+];
 
 #[test]
-fn map_refuses_in_the_order_of_its_row(rt: HostRuntime) -> Result<(), Fail> {
-    assert_eq!(rt; wrong_lines(rt.alloc(), &[], MAP_REFUSED)?.as_str(), "");
-    Ok(())
-}
-
-#[test]
-fn map_answers_what_is_mapped(rt: HostRuntime) -> Result<(), Fail> {
-    assert_eq!(rt; wrong_lines(rt.alloc(), &[], MAP)?.as_str(), "");
-    Ok(())
-}
-
-#[test]
-fn unmap_ends_the_threads_own_map(rt: HostRuntime) -> Result<(), Fail> {
-    assert_eq!(rt; wrong_lines(rt.alloc(), &[], UNMAP)?.as_str(), "");
+fn finds_and_maps_follow_their_rows(rt: HostRuntime) -> Result<(), Fail> {
+    assert_eq!(rt;
+        wrong_calls_in(rt.alloc(), &THREE, NOW, &TABLES)?.as_str(),
+        ""
+    );
     Ok(())
 }

@@ -1,7 +1,6 @@
 // Long paths.
-use super::super::image::{RowFault, image_with};
-use super::super::stand::Stand;
 use super::NOW;
+use kern_stand::{RowFault, Table, wrong_calls_in};
 use std::alloc::{AllocError, Global};
 use std::test::Fail;
 
@@ -20,22 +19,25 @@ fn long_path(alloc: Global, length: usize) -> Result<String, AllocError> {
     Ok(path)
 }
 
+// The lines that have another outcome over a new image.
+fn wrong_over_new(alloc: Global, lines: &str) -> Result<String, RowFault> {
+    wrong_calls_in(alloc, &[], NOW, &[Table { stored: &[], lines }])
+}
+
 // What else than wanted comes of finding a path of this length.
 fn wrong_find(alloc: Global, length: usize, want: &str) -> Result<String, RowFault> {
-    let words = image_with(alloc, &[], &[])?;
     let path = long_path(alloc, length)?;
     let line = format!(in alloc; "0 find {path} -> {want}")?;
-    Stand::over(alloc, &words, NOW)?.wrong_lines(&line)
+    wrong_over_new(alloc, &line)
 }
 
 // What else than wanted comes of a new coffer with a path of this length.
 fn wrong_new(alloc: Global, length: usize, want: &str) -> Result<String, RowFault> {
-    let words = image_with(alloc, &[], &[])?;
     let path = long_path(alloc, length)?;
     let lines = format!(in alloc;
         "0 map / write shared\n0 new 1 {path} dir 600 159744:0:2 155648:0\n0 find {path} -> {want}"
     )?;
-    Stand::over(alloc, &words, NOW)?.wrong_lines(&lines)
+    wrong_over_new(alloc, &lines)
 }
 
 #[test]

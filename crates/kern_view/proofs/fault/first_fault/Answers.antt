@@ -1,8 +1,8 @@
 use Rattle.std.proofs.Common.{List, MatchOption, subst}
 use Rattle.pm_words.specs.Word.{Word}
-use Rattle.tr_types.specs.KernelRules as rules
-use Rattle.tr_types.specs.KernelRules.{FailsFirst}
-use Rattle.kern_view.specs.Parts.{AreGoodTables}
+use Rattle.kern_model.specs.KernelRules as rules
+use Rattle.kern_model.specs.KernelRules.{FailsFirst}
+use Rattle.kern_view.specs.RuleParts.{AreGoodTables}
 use Rattle.kern_view.proofs.FaultLemmas.{judged}
 use Rattle.kern_view.proofs.fault.first_fault.Goals as goal
 

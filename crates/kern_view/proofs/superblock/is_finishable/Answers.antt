@@ -1,9 +1,9 @@
 use Rattle.std.proofs.Common.{◌≡◌, ◌<◌, ◌≤◌, ℕ, refl, sym, ap, ◌∙◌, subst, arith}
 use Rattle.zo_layout.specs.Layout.{pair_address, pair_capacity}
 use Rattle.pm_words.specs.Memory.{word_at}
-use Rattle.tr_types.specs.KernelView.{pages_of}
-use Rattle.tr_types.specs.Journal.{committed_count}
-use Rattle.kern_view.specs.Parts.{IsTarget}
+use Rattle.kern_model.specs.KernelView.{pages_of}
+use Rattle.kern_model.specs.Journal.{committed_count}
+use Rattle.kern_view.specs.RuleParts.{IsTarget}
 use Rattle.kern_view.proofs.TargetLemmas.{finishable_from, target_from}
 use Rattle.kern_view.proofs.superblock.is_finishable.Goals as goal
 

@@ -2,9 +2,9 @@ use Rattle.std.proofs.Common.{◌≡◌, ℕ, List, ◌++◌, ap, sym, ◌∙◌
 use Rattle.std.specs.List.{range_with_len, flat_map}
 use Rattle.std.specs.Int.{w64, to_le_bytes}
 use Rattle.zo_layout.specs.Layout.{coffer_entry, coffer_path_length, coffer_path_word}
-use Rattle.tr_types.specs.KernelTables.{path_length}
-use Rattle.tr_types.specs.KernelView.{pages_of}
-use Rattle.tr_types.specs.Journal.{kernel_word}
+use Rattle.kern_model.specs.KernelTables.{path_length}
+use Rattle.kern_model.specs.KernelView.{pages_of}
+use Rattle.kern_model.specs.Journal.{kernel_word}
 use Rattle.kern_view.proofs.ReadLemmas.{flat_more, path_end}
 use Rattle.kern_view.proofs.tables.read_path.Goals as goal
 

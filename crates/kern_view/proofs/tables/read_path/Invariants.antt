@@ -2,8 +2,8 @@ use Rattle.std.proofs.Common.{◌≡◌}
 use Rattle.std.specs.List.{range_with_len, flat_map}
 use Rattle.std.specs.Int.{w64, to_le_bytes}
 use Rattle.zo_layout.specs.Layout.{coffer_entry, coffer_path_word}
-use Rattle.tr_types.specs.KernelView.{pages_of}
-use Rattle.tr_types.specs.Journal.{kernel_word}
+use Rattle.kern_model.specs.KernelView.{pages_of}
+use Rattle.kern_model.specs.Journal.{kernel_word}
 use Rattle.kern_view.proofs.tables.read_path.Given as goal
 
 abbrev pub invariant-loop-i : goal.invariant-loop-i

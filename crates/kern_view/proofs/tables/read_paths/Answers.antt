@@ -1,6 +1,6 @@
 use Rattle.std.proofs.Common.{◌-◌, ◌∙◌, arith}
-use Rattle.tr_types.specs.KernelView.{pages_of}
-use Rattle.tr_types.specs.Journal.{kernel_word}
+use Rattle.kern_model.specs.KernelView.{pages_of}
+use Rattle.kern_model.specs.Journal.{kernel_word}
 use Rattle.kern_view.specs.Reads.{path_there}
 use Rattle.kern_view.proofs.ReadLemmas.{paths_more, paths_to_end}
 use Rattle.kern_view.proofs.tables.read_paths.Goals as goal

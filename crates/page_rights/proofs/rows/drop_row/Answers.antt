@@ -2,7 +2,7 @@ use Rattle.std.proofs.Common.{not}
 use Rattle.std.proofs.lemmas.Fn.{filter_same}
 use Rattle.tr_types.specs.declared.kernel_call.Holder.{Holder}
 use Rattle.std.proofs.Common.{rules}
-use Rattle.tr_types.specs.Rights.{is_row_of}
+use Rattle.kern_model.specs.Rights.{is_row_of}
 use Rattle.page_rights.proofs.rows.drop_row.Goals as goal
 
 pub returns-clause-items : goal.returns-clause-items

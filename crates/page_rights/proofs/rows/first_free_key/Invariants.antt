@@ -1,7 +1,7 @@
 use Rattle.std.proofs.Common.{◌≡◌, ◌-◌}
 use Rattle.std.specs.Prelude.{filter}
 use Rattle.std.specs.List.{range_with_len}
-use Rattle.tr_types.specs.Rights.{first_of}
+use Rattle.kern_model.specs.Rights.{first_of}
 use Rattle.page_rights.specs.Lookup.{is_free_in, free_in}
 use Rattle.page_rights.proofs.rows.first_free_key.Given as goal
 

@@ -1,5 +1,5 @@
 use Rattle.std.proofs.Common.{◌≡◌, drop}
-use Rattle.tr_types.specs.KernelCalls.{holds_as_owner}
+use Rattle.kern_model.specs.KernelCalls.{holds_as_owner}
 use Rattle.page_rights.proofs.rows.holds_as_owner.Given as goal
 
 abbrev pub invariant-loop-holder : goal.invariant-loop-holder

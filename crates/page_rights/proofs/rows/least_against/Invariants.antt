@@ -1,5 +1,5 @@
 use Rattle.std.proofs.Common.{take}
-use Rattle.tr_types.specs.Rights.{those_against}
+use Rattle.kern_model.specs.Rights.{those_against}
 use Rattle.page_rights.specs.Lookup.{IsLeast}
 use Rattle.page_rights.proofs.rows.least_against.Given as goal
 

@@ -1,5 +1,5 @@
 use Rattle.std.proofs.Common.{◌≡◌, drop}
-use Rattle.tr_types.specs.KernelCalls.{own_row}
+use Rattle.kern_model.specs.KernelCalls.{own_row}
 use Rattle.page_rights.proofs.rows.own_row.Given as goal
 
 abbrev pub invariant-loop-holder : goal.invariant-loop-holder

@@ -1,5 +1,5 @@
 use Rattle.std.proofs.Common.{◌≡◌, length, drop}
-use Rattle.tr_types.specs.Tree as spec
+use Rattle.zo_model.specs.Tree as spec
 use Rattle.tr_answer.proofs.names.same_names.Given as goal
 
 abbrev pub invariant-loop-i : goal.invariant-loop-i

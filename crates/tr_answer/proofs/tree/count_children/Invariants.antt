@@ -1,5 +1,5 @@
 use Rattle.std.proofs.Common.{◌≡◌, ◌+◌, ◌≤◌, length, drop, filter}
-use Rattle.tr_types.specs.Tree.{is_child}
+use Rattle.zo_model.specs.Tree.{is_child}
 use Rattle.tr_answer.proofs.tree.count_children.Given as goal
 
 abbrev pub invariant-loop-member : goal.invariant-loop-member

@@ -1,5 +1,5 @@
 use Rattle.std.proofs.Common.{◌≡◌, drop}
-use Rattle.tr_types.specs.Tree as spec
+use Rattle.zo_model.specs.Tree as spec
 use Rattle.tr_answer.proofs.tree.node_at.Given as goal
 
 abbrev pub invariant-loop-member : goal.invariant-loop-member

@@ -1,5 +1,5 @@
 use Rattle.std.proofs.Common.{sym, ◌∙◌}
-use Rattle.tr_types.specs.Rights.{may_read}
+use Rattle.kern_model.specs.Rights.{may_read}
 use Rattle.zo_ops.proofs.MarkLemmas.{next_key}
 use Rattle.zo_ops.proofs.mark.pkru_mark.Goals as goal
 

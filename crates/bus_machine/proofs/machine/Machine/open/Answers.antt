@@ -1,6 +1,6 @@
 use Rattle.std.proofs.Common.{Err, ap, ◌∙◌}
 use Rattle.std.proofs.lemmas.Result.{err_from_is_err_and}
-use Rattle.tr_types.specs.KernelRules.{IsFirstFault}
+use Rattle.kern_model.specs.KernelRules.{IsFirstFault}
 use Rattle.kern_calls.specs.declared.mount.MountFault.{MountFault}
 use Rattle.bus_machine.proofs.Opened.{passed_refusal, passed_done}
 use Rattle.bus_machine.proofs.machine.Machine.open.Goals as goal

@@ -1,5 +1,5 @@
 use Rattle.std.proofs.Common.{◌∙◌, ap, sym, subst}
-use Rattle.tr_types.specs.Commits.{IsFit}
+use Rattle.kern_model.specs.Commits.{IsFit}
 use Rattle.kern_plans.specs.Plans.{Plan}
 use Rattle.kern_calls.proofs.PlanLemmas.{caller_is}
 use Rattle.kern_calls.proofs.DoneLemmas.{ok_of, err_of, refused, cut_early, may_commit, sound_then, known_then, cut_then, answered_then}
@@ -68,6 +68,7 @@ returns-clause-answered c =
     let followed = ok_of c.follow.result (sym c.is_err-2.ensures.value ∙ c.if-is_err-2.false) c.follow.ensures in
     answered_then kernel words c.args.thread c.args.now c.args.call.now c.requires.mounted keeps c.commit_law.ensures
     c.in-Ok.plan c.in-Ok.ensures c.deref.result.now gives c.deref-2.result.now stores c.commit.new.words stored
+    (λ due. c.crash_law.ensures.steady kernel.callers words kernel.holders c.args.thread c.args.now c.args.call.now c.requires.mounted.working caller c.requires.call due)
     c.plan-2.inside.answer c.follow.new.self c.end_maps.new.self c.requires.change (ap (λ (p : Plan). p.answer) c.plan-2.view_is) followed c.end_maps.ensures
 
 pub returns-then-is_err-clause-answered : goal.returns-then-is_err-clause-answered

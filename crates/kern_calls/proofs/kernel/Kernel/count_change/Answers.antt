@@ -1,5 +1,5 @@
 use Rattle.std.proofs.Common.{◌∙◌, ap, subst}
-use Rattle.tr_types.specs.Commits.{IsFit}
+use Rattle.kern_model.specs.Commits.{IsFit}
 use Rattle.kern_plans.specs.Plans.{Plan}
 use Rattle.kern_calls.proofs.PlanLemmas.{caller_is}
 use Rattle.kern_calls.proofs.DoneLemmas.{may_commit}

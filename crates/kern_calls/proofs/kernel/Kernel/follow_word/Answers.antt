@@ -1,5 +1,5 @@
 use Rattle.std.proofs.Common.{◌≡◌, ◌∙◌, ℕ, Some, None, set, ap, subst, arith}
-use Rattle.tr_types.specs.KernelView.{pages_of}
+use Rattle.kern_model.specs.KernelView.{pages_of}
 use Rattle.kern_calls.specs.Steps.{IsPageAt, FollowsWord, with_owners}
 use Rattle.kern_calls.proofs.FollowLemmas.{on_ok, followed_page, followed_none}
 use Rattle.kern_calls.proofs.kernel.Kernel.follow_word.Goals as goal

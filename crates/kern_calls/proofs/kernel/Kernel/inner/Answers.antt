@@ -1,5 +1,5 @@
 use Rattle.std.proofs.Common.{◌≡◌, inl, inr, length, refl, sym, subst}
-use Rattle.tr_types.specs.KernelCalls.{row_of, inner_of}
+use Rattle.kern_model.specs.KernelCalls.{row_of, inner_of}
 use Rattle.tr_types.specs.declared.kernel_call.Kcall.{Kcall}
 use Rattle.tr_types.specs.declared.kernel_call.Kcall.TheVariants as call
 use Rattle.kern_calls.proofs.DoneLemmas.{none_made}

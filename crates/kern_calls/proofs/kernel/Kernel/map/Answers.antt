@@ -1,7 +1,7 @@
 use Rattle.std.proofs.Common.{◌≡◌, ◌∙◌, ℕ, List, [], length, rules, sym, ap, subst}
-use Rattle.tr_types.specs.Kernel.{coffer_pages}
+use Rattle.kern_model.specs.Kernel.{coffer_pages}
 use Rattle.tr_types.specs.Permission.{refuses}
-use Rattle.tr_types.specs.KernelCalls.{found_for, located, mapped_as, map_row}
+use Rattle.kern_model.specs.KernelCalls.{found_for, located, mapped_as, map_row}
 use Rattle.tr_types.specs.declared.kernel_call.FoundAt.{FoundAt}
 use Rattle.tr_types.specs.declared.kernel_call.KernAnswer.{KernAnswer}
 use Rattle.tr_types.specs.declared.kernel_call.Mapped.{Mapped}

@@ -1,9 +1,9 @@
 use Rattle.std.proofs.Common.{ℕ, Err, Option, MatchOption, inl, ap, subst}
-use Rattle.tr_types.specs.KernelRules.{IsFirstFault, IsSoundKernel}
-use Rattle.tr_types.specs.Inner.{redo_events}
+use Rattle.kern_model.specs.KernelRules.{IsFirstFault, IsSoundKernel}
+use Rattle.kern_model.specs.Inner.{redo_events}
 use Rattle.kern_view.proofs.FaultLemmas.{one_fault}
 use Rattle.kern_calls.specs.declared.mount.MountFault.TheVariants.{BadKernel}
-use Rattle.kern_calls.proofs.MountLemmas.{still_sound, mounted_fresh, whole_cut}
+use Rattle.kern_calls.proofs.MountLemmas.{still_sound, mounted_fresh, steady_fresh, whole_cut}
 use Rattle.kern_calls.proofs.kernel.Kernel.mount.Goals as goal
 
 pub returns-in-Some-clause-refuses : goal.returns-in-Some-clause-refuses
@@ -36,3 +36,10 @@ returns-clause-mounted c =
 
 pub returns-in_err-kernel-clause-no_memory : goal.returns-in_err-kernel-clause-no_memory
 returns-in_err-kernel-clause-no_memory c = λ no. whole_cut (redo_events c.args.words.now) c.args.words.now c.redo.new.words c.in_ok-redo.ensures.ok
+
+pub returns-clause-steady : goal.returns-clause-steady
+returns-clause-steady c =
+    let words = c.args.words.now in
+    let sound : IsSoundKernel words =
+    subst (λ (fault : Option ℕ). MatchOption fault (IsSoundKernel words) (IsFirstFault words)) c.in-None.is c.in_ok-first_fault.ensures.fault in
+    steady_fresh words c.redo.new.words c.in_ok-first_fault.ensures.size sound c.in_ok-redo.ensures.ok

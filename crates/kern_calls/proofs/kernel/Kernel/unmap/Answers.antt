@@ -1,6 +1,6 @@
 use Rattle.std.proofs.Common.{◌∙◌, sym, subst}
-use Rattle.tr_types.specs.Rights.{without_row}
-use Rattle.tr_types.specs.KernelCalls.{unmap_row}
+use Rattle.kern_model.specs.Rights.{without_row}
+use Rattle.kern_model.specs.KernelCalls.{unmap_row}
 use Rattle.tr_types.specs.declared.kernel_call.KernAnswer.{KernAnswer}
 use Rattle.page_rights.specs.Tables.{View}
 use Rattle.kern_calls.specs.Calls.{KernelView}

@@ -1,7 +1,7 @@
 use Rattle.std.proofs.Common.{◌≡◌, ◌∙◌, ℕ, List, [], ◌∷◌, ◌++◌, length, map, sym, ap, subst₂, arith}
 use Rattle.std.specs.List.{range_with_len}
 use Rattle.std.proofs.lemmas.List.FromFn.{length-map-range_with_len, map-range_with_len_more}
-use Rattle.tr_types.specs.Kernel.{kernel_owner}
+use Rattle.kern_model.specs.Kernel.{kernel_owner}
 use Rattle.kern_pages.specs.Sets.{AreSetsOf}
 use Rattle.kern_pages.proofs.SetsLemmas.{kernels_listed, others_listed}
 use Rattle.kern_pages.proofs.owners.Owners.of_words.Goals as goal

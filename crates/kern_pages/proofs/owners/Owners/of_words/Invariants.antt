@@ -1,6 +1,6 @@
 use Rattle.std.proofs.Common.{◌≡◌, map}
 use Rattle.std.specs.List.{range_with_len}
-use Rattle.tr_types.specs.Kernel.{kernel_owner}
+use Rattle.kern_model.specs.Kernel.{kernel_owner}
 use Rattle.kern_pages.specs.Sets.{AreSetsOf}
 use Rattle.kern_pages.proofs.owners.Owners.of_words.Given as goal
 

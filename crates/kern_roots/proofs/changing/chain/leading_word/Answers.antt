@@ -1,10 +1,10 @@
 use Rattle.std.proofs.Common.{◌≡◌, ◌∙◌, ℕ, List, ap, sym, arith}
 use Rattle.std.specs.List.{list_all}
 use Rattle.zo_layout.specs.Layout.{coffer_next, coffer_entry}
-use Rattle.tr_types.specs.KernelView.{pages_of}
-use Rattle.tr_types.specs.Journal.{kernel_word}
-use Rattle.tr_types.specs.KernelTables.{is_id, chain_in}
-use Rattle.tr_types.specs.PathMap.{leads_to}
+use Rattle.kern_model.specs.KernelView.{pages_of}
+use Rattle.kern_model.specs.Journal.{kernel_word}
+use Rattle.kern_model.specs.KernelTables.{is_id, chain_in}
+use Rattle.kern_model.specs.PathMap.{leads_to}
 use Rattle.kern_roots.proofs.ChangingChain.{chain_start, chain_after, ids_in_bucket, head_is_id, head_in_table, rest_are_ids, leads_stop, leads_end, leads_here, leads_past}
 use Rattle.kern_roots.proofs.changing.chain.leading_word.Goals as goal
 

@@ -1,10 +1,10 @@
 use Rattle.std.proofs.Common.{◌≡◌, true}
 use Rattle.std.specs.List.{list_all}
 use Rattle.zo_layout.specs.Layout.{path_bucket}
-use Rattle.tr_types.specs.KernelView.{pages_of}
-use Rattle.tr_types.specs.Journal.{kernel_word}
-use Rattle.tr_types.specs.KernelTables.{is_id, chain_in}
-use Rattle.tr_types.specs.PathMap as map
+use Rattle.kern_model.specs.KernelView.{pages_of}
+use Rattle.kern_model.specs.Journal.{kernel_word}
+use Rattle.kern_model.specs.KernelTables.{is_id, chain_in}
+use Rattle.kern_model.specs.PathMap as map
 use Rattle.kern_roots.proofs.ChangingChain.{chain_after}
 use Rattle.kern_roots.proofs.changing.chain.leading_word.Given as goal
 

@@ -1,4 +1,4 @@
-use Rattle.tr_types.specs.PathMap as map
+use Rattle.kern_model.specs.PathMap as map
 use Rattle.kern_roots.proofs.changing.pairs.cleared.Goals as goal
 
 pub returns : goal.returns

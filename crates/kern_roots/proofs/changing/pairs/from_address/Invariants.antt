@@ -1,5 +1,5 @@
 use Rattle.std.proofs.Common.{◌≡◌, take}
-use Rattle.tr_types.specs.PathMap as map
+use Rattle.kern_model.specs.PathMap as map
 use Rattle.kern_roots.proofs.changing.pairs.from_address.Given as goal
 
 abbrev pub invariant-loop-i : goal.invariant-loop-i

@@ -1,7 +1,7 @@
 use Rattle.std.proofs.Common.{◌∙◌, not, ap, sym, arith}
-use Rattle.tr_types.specs.KernelView.{pages_of}
-use Rattle.tr_types.specs.Journal.{kernel_word}
-use Rattle.tr_types.specs.KernelTables.{stands_in}
+use Rattle.kern_model.specs.KernelView.{pages_of}
+use Rattle.kern_model.specs.Journal.{kernel_word}
+use Rattle.kern_model.specs.KernelTables.{stands_in}
 use Rattle.kern_roots.proofs.ChangingSearch.{in_range, find_start, find_hit, find_miss, find_end}
 use Rattle.kern_roots.proofs.changing.search.free_id.Goals as goal
 

@@ -1,8 +1,8 @@
 use Rattle.std.proofs.Common.{◌≡◌, find, not}
-use Rattle.tr_types.specs.KernelView.{pages_of}
-use Rattle.tr_types.specs.Journal.{kernel_word}
-use Rattle.tr_types.specs.KernelTables.{stands_in}
-use Rattle.tr_types.specs.PathMap as map
+use Rattle.kern_model.specs.KernelView.{pages_of}
+use Rattle.kern_model.specs.Journal.{kernel_word}
+use Rattle.kern_model.specs.KernelTables.{stands_in}
+use Rattle.kern_model.specs.PathMap as map
 use Rattle.kern_roots.proofs.ChangingSearch.{ids_from}
 use Rattle.kern_roots.proofs.changing.search.free_id.Given as goal
 

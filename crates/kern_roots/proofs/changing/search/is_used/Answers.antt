@@ -1,6 +1,6 @@
 use Rattle.std.proofs.Common.{◌∙◌, sym}
-use Rattle.tr_types.specs.KernelView.{pages_of}
-use Rattle.tr_types.specs.Journal.{kernel_word}
+use Rattle.kern_model.specs.KernelView.{pages_of}
+use Rattle.kern_model.specs.Journal.{kernel_word}
 use Rattle.kern_roots.proofs.ChangingSearch.{used_is, range_of}
 use Rattle.kern_roots.proofs.changing.search.is_used.Goals as goal
 

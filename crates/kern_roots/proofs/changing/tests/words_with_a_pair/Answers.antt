@@ -1,8 +1,8 @@
 use Rattle.std.proofs.Common.{◌≡◌, List, sym, ap, subst, ◌∙◌}
 use Rattle.pm_words.specs.Word.{Word}
 use Rattle.pm_words.specs.Memory.{all_durable, store_at}
-use Rattle.tr_types.specs.NewImage.{new_image}
-use Rattle.tr_types.specs.KernelRules.{IsSoundKernel}
+use Rattle.kern_model.specs.NewImage.{new_image}
+use Rattle.kern_model.specs.KernelRules.{IsSoundKernel}
 use Rattle.kern_roots.proofs.ChangingCommitted.{pending, pending_is_sound}
 use Rattle.kern_roots.proofs.changing.tests.words_with_a_pair.Goals as goal
 

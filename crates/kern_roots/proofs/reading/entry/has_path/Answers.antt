@@ -1,7 +1,7 @@
 use Rattle.std.proofs.Common.{ℕ, List, ◌*◌, take, drop, nat_eq, sym, ap, ◌∙◌, arith}
 use Rattle.std.specs.List.{starts_with}
-use Rattle.tr_types.specs.KernelView.{pages_of}
-use Rattle.tr_types.specs.Journal.{kernel_word}
+use Rattle.kern_model.specs.KernelView.{pages_of}
+use Rattle.kern_model.specs.Journal.{kernel_word}
 use Rattle.kern_roots.proofs.ReadingPaths.{agree_more, agree_all, apart_here, apart_by_length}
 use Rattle.kern_roots.proofs.reading.entry.has_path.Goals as goal
 

@@ -1,6 +1,6 @@
 use Rattle.std.proofs.Common.{ap, ◌∙◌, arith}
 use Rattle.zo_layout.specs.Layout.{coffer_path_length}
-use Rattle.tr_types.specs.Journal.{kernel_word}
+use Rattle.kern_model.specs.Journal.{kernel_word}
 use Rattle.kern_roots.proofs.ReadingSound.{sound_entry}
 use Rattle.kern_roots.proofs.reading.entry.path_len.Goals as goal
 

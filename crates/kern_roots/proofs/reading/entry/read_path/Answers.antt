@@ -1,6 +1,6 @@
 use Rattle.std.proofs.Common.{ℕ, List, ◌++◌, take, sym, ap, ◌∙◌, arith}
-use Rattle.tr_types.specs.KernelView.{pages_of}
-use Rattle.tr_types.specs.Journal.{kernel_word}
+use Rattle.kern_model.specs.KernelView.{pages_of}
+use Rattle.kern_model.specs.Journal.{kernel_word}
 use Rattle.kern_roots.specs.Entries.{path_piece}
 use Rattle.kern_roots.proofs.ReadingPieces.{pieces, pieces_more}
 use Rattle.kern_roots.proofs.ReadingPaths.{path_read}

@@ -1,6 +1,6 @@
 use Rattle.std.proofs.Common.{◌≡◌}
-use Rattle.tr_types.specs.KernelView.{pages_of}
-use Rattle.tr_types.specs.Journal.{kernel_word}
+use Rattle.kern_model.specs.KernelView.{pages_of}
+use Rattle.kern_model.specs.Journal.{kernel_word}
 use Rattle.kern_roots.specs.Entries.{path_piece}
 use Rattle.kern_roots.proofs.ReadingPieces.{pieces}
 use Rattle.kern_roots.proofs.reading.entry.read_path.Given as goal

@@ -1,6 +1,6 @@
 use Rattle.std.proofs.Common.{ap, ◌∙◌, arith}
 use Rattle.zo_layout.specs.Layout.{coffer_uid, coffer_gid, coffer_mode, coffer_kind, coffer_control, coffer_root}
-use Rattle.tr_types.specs.Journal.{kernel_word}
+use Rattle.kern_model.specs.Journal.{kernel_word}
 use Rattle.kern_roots.proofs.ReadingSound.{sound_entry}
 use Rattle.kern_roots.proofs.reading.entry.read_root.Goals as goal
 

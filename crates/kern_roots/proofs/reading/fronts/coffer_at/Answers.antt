@@ -4,10 +4,10 @@ use Rattle.std.proofs.lemmas.Bool.{and_parts, leb-true}
 use Rattle.std.proofs.lemmas.Slice.Eq.{bytes_eq-Decides}
 use Rattle.zo_layout.specs.Layout.{bucket_of, path_bucket}
 use Rattle.pm_words.specs.Word.{Word}
-use Rattle.tr_types.specs.KernelView.{pages_of}
-use Rattle.tr_types.specs.Journal.{kernel_word}
-use Rattle.tr_types.specs.KernelTables.{is_id, stands_in}
-use Rattle.tr_types.specs.KernelRules.{IsSoundKernel}
+use Rattle.kern_model.specs.KernelView.{pages_of}
+use Rattle.kern_model.specs.Journal.{kernel_word}
+use Rattle.kern_model.specs.KernelTables.{is_id, stands_in}
+use Rattle.kern_model.specs.KernelRules.{IsSoundKernel}
 use Rattle.kern_roots.specs.Entries.{has_coffer, path_of}
 use Rattle.kern_roots.proofs.ReadingChains.{IsBucket, IsWalk, bucket_is_sound, chain_tells, walk_begins, walk_ends, walk_at, walk_goes_on}
 use Rattle.kern_roots.proofs.reading.fronts.coffer_at.Goals as goal

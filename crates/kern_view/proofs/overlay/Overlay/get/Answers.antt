@@ -1,5 +1,5 @@
 use Rattle.std.proofs.Common.{ℕ, List, Option, unwrap_or, sym, ap, ◌∙◌}
-use Rattle.tr_types.specs.Journal.{laid_over}
+use Rattle.kern_model.specs.Journal.{laid_over}
 use Rattle.kern_view.proofs.LaidLemmas.{laid_in_reverse}
 use Rattle.kern_view.proofs.overlay.Overlay.get.Goals as goal
 

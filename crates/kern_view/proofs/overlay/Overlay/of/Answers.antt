@@ -1,6 +1,6 @@
 use Rattle.std.proofs.Common.{ℕ, List, ap, ◌∙◌, arith, length, ◌≤◌}
 use Rattle.std.proofs.lemmas.List.{take_all}
-use Rattle.tr_types.specs.Journal.{laid_over}
+use Rattle.kern_model.specs.Journal.{laid_over}
 use Rattle.kern_view.proofs.LaidLemmas.{laid_in_reverse}
 use Rattle.kern_view.proofs.overlay.Overlay.of.Goals as goal
 

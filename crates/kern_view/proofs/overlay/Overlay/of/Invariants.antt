@@ -1,6 +1,6 @@
 use Rattle.std.proofs.Common.{◌≡◌, ℕ, take, unwrap_or, nat_eq}
 use Rattle.std.specs.Map.{lookup}
-use Rattle.tr_types.specs.Journal.{laid_over}
+use Rattle.kern_model.specs.Journal.{laid_over}
 use Rattle.kern_view.proofs.overlay.Overlay.of.Given as goal
 
 abbrev pub invariant-loop-addr : goal.invariant-loop-addr

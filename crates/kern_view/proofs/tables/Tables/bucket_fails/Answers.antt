@@ -1,8 +1,8 @@
 use Rattle.std.proofs.Common.{ℕ, Bool, not, ◌&&◌, ap, sym, ◌∙◌, slice_index_or, false}
 use Rattle.std.specs.List.{list_all, filter}
-use Rattle.tr_types.specs.KernelView.{pages_of}
-use Rattle.tr_types.specs.Journal.{kernel_word}
-use Rattle.tr_types.specs.KernelTables.{all_ids, belongs, chain_in, is_in_chain}
+use Rattle.kern_model.specs.KernelView.{pages_of}
+use Rattle.kern_model.specs.Journal.{kernel_word}
+use Rattle.kern_model.specs.KernelTables.{all_ids, belongs, chain_in, is_in_chain}
 use Rattle.kern_view.proofs.ChainLemmas.{none_marked}
 use Rattle.kern_view.proofs.RangeLemmas.{same_of_all}
 use Rattle.kern_view.proofs.tables.Tables.bucket_fails.Goals as goal

@@ -1,7 +1,7 @@
 use Rattle.std.proofs.Common.{ℕ, sym, ap, ◌∙◌, subst}
 use Rattle.zo_layout.specs.Layout.{coffer_entry}
-use Rattle.tr_types.specs.KernelRules as rules
-use Rattle.tr_types.specs.KernelRules.{FailsFirst}
+use Rattle.kern_model.specs.KernelRules as rules
+use Rattle.kern_model.specs.KernelRules.{FailsFirst}
 use Rattle.kern_view.proofs.FaultLemmas.{entry_first}
 use Rattle.kern_view.proofs.tables.Tables.fault.Goals as goal
 

@@ -1,8 +1,8 @@
 use Rattle.std.proofs.Common.{◌≡◌, ℕ, Bool, false, not, ◌&&◌, ap, sym, ◌∙◌, arith, slice_index_or}
 use Rattle.std.proofs.lemmas.Bool.{and_left, and_right}
-use Rattle.tr_types.specs.KernelView.{pages_of}
-use Rattle.tr_types.specs.Journal.{kernel_word}
-use Rattle.tr_types.specs.KernelTables.{belongs}
+use Rattle.kern_model.specs.KernelView.{pages_of}
+use Rattle.kern_model.specs.Journal.{kernel_word}
+use Rattle.kern_model.specs.KernelTables.{belongs}
 use Rattle.kern_view.proofs.RangeLemmas.{one_more, lacks_none, lacks_some}
 use Rattle.kern_view.proofs.tables.Tables.lacks_one.Goals as goal
 use Rattle.kern_view.proofs.tables.Tables.lacks_one.Goals.{else-belongs-via-then-belongs+else-not-seen-from, else-belongs-via-else-belongs}

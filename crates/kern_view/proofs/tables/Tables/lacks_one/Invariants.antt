@@ -1,7 +1,7 @@
 use Rattle.std.proofs.Common.{◌≡◌, ℕ, ◌<◌, ◌≤◌, ◌&&◌, not, false, slice_index_or}
-use Rattle.tr_types.specs.KernelView.{pages_of}
-use Rattle.tr_types.specs.Journal.{kernel_word}
-use Rattle.tr_types.specs.KernelTables.{belongs}
+use Rattle.kern_model.specs.KernelView.{pages_of}
+use Rattle.kern_model.specs.Journal.{kernel_word}
+use Rattle.kern_model.specs.KernelTables.{belongs}
 use Rattle.kern_view.proofs.tables.Tables.lacks_one.Given as goal
 
 abbrev pub invariant-loop-id : goal.invariant-loop-id

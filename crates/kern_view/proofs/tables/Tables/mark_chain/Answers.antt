@@ -1,8 +1,8 @@
 use Rattle.std.proofs.Common.{◌≡◌, inl, inr, ℕ, suc, ◌+◌, ◌-◌, List, ap, sym, ◌∙◌, arith, subst}
 use Rattle.zo_layout.specs.Layout.{coffer_entry, coffer_next, path_bucket}
-use Rattle.tr_types.specs.KernelView.{pages_of}
-use Rattle.tr_types.specs.Journal.{kernel_word}
-use Rattle.tr_types.specs.KernelTables.{belongs, chain_in, chain_from, longest_chain}
+use Rattle.kern_model.specs.KernelView.{pages_of}
+use Rattle.kern_model.specs.Journal.{kernel_word}
+use Rattle.kern_model.specs.KernelTables.{belongs, chain_in, chain_from, longest_chain}
 use Rattle.kern_view.proofs.ChainLemmas.{IsFollowed, longest_is, belongs_bound, follow_from, follow_more, good_at_end, marked_at_end, bad_here}
 use Rattle.kern_view.proofs.tables.Tables.mark_chain.Goals as goal
 use Rattle.kern_view.proofs.tables.Tables.mark_chain.Goals.{then-not-belongs-via-then-not-belongs, then-not-belongs-via-else-not-belongs+then-seen-id}

@@ -1,8 +1,8 @@
 use Rattle.std.proofs.Common.{◌-◌}
 use Rattle.zo_layout.specs.Layout.{coffer_entry, coffer_next}
-use Rattle.tr_types.specs.KernelView.{pages_of}
-use Rattle.tr_types.specs.Journal.{kernel_word}
-use Rattle.tr_types.specs.KernelTables.{belongs, chain_in, longest_chain}
+use Rattle.kern_model.specs.KernelView.{pages_of}
+use Rattle.kern_model.specs.Journal.{kernel_word}
+use Rattle.kern_model.specs.KernelTables.{belongs, chain_in, longest_chain}
 use Rattle.kern_view.proofs.ChainLemmas.{IsFollowed}
 use Rattle.kern_view.proofs.tables.Tables.mark_chain.Given as goal
 

@@ -1,8 +1,8 @@
 use Rattle.std.proofs.Common.{◌≡◌, ℕ, List, true, false, not, ◌&&◌, ◌==◌, ap, sym, ◌∙◌, arith, subst}
 use Rattle.std.proofs.lemmas.Bool.{ne_eqb, eq-eqb, and_left, and_right}
-use Rattle.tr_types.specs.KernelView.{pages_of}
-use Rattle.tr_types.specs.Journal.{kernel_word}
-use Rattle.kern_view.specs.Parts.{has_path}
+use Rattle.kern_model.specs.KernelView.{pages_of}
+use Rattle.kern_model.specs.Journal.{kernel_word}
+use Rattle.kern_view.specs.RuleParts.{has_path}
 use Rattle.kern_view.proofs.RangeLemmas.{one_more, stands_once, stands_twice}
 use Rattle.kern_view.proofs.tables.Tables.path_stands_twice.Goals as goal
 use Rattle.kern_view.proofs.tables.Tables.path_stands_twice.Goals.{else-other-id-via-then-other-id+else-has_path, else-other-id-via-else-other-id}

@@ -1,7 +1,7 @@
 use Rattle.std.proofs.Common.{◌≡◌, ℕ, ◌<◌, ◌≤◌, ◌&&◌, ◌==◌, not, false}
-use Rattle.tr_types.specs.KernelView.{pages_of}
-use Rattle.tr_types.specs.Journal.{kernel_word}
-use Rattle.kern_view.specs.Parts.{has_path}
+use Rattle.kern_model.specs.KernelView.{pages_of}
+use Rattle.kern_model.specs.Journal.{kernel_word}
+use Rattle.kern_view.specs.RuleParts.{has_path}
 use Rattle.kern_view.proofs.tables.Tables.path_stands_twice.Given as goal
 
 abbrev pub invariant-loop-other : goal.invariant-loop-other

@@ -1,7 +1,7 @@
 use Rattle.std.proofs.Common.{◌≡◌, ℕ, List, Option, Some, Err, sym, ap, subst, ◌∙◌, refl, set}
 use Rattle.std.proofs.lemmas.List.{with_items_is}
 use Rattle.tr_types.specs.declared.kernel_call.Holder.{Holder}
-use Rattle.tr_types.specs.Rights.{those_against, IsLeastOf, with_row, key_for}
+use Rattle.kern_model.specs.Rights.{those_against, IsLeastOf, with_row, key_for}
 use Rattle.page_rights.specs.declared.tables.MapFault.TheVariants.{InUse}
 use Rattle.page_rights.specs.Tables.{View}
 use Rattle.page_rights.specs.Lookup.{process_at, place_of, mapping_of, IsLeast}

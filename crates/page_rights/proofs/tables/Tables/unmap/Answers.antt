@@ -1,7 +1,7 @@
 use Rattle.std.proofs.Common.{◌≡◌, ◌<◌, ◌≤◌, ℕ, List, Option, sym, ap, ◌∙◌, length, set, arith}
 use Rattle.std.proofs.lemmas.List.{with_items_is}
 use Rattle.tr_types.specs.declared.kernel_call.Holder.{Holder}
-use Rattle.tr_types.specs.KernelCalls.{holds_any}
+use Rattle.kern_model.specs.KernelCalls.{holds_any}
 use Rattle.page_rights.specs.declared.mapping.Mapping.{Mapping}
 use Rattle.page_rights.specs.Tables.{View}
 use Rattle.page_rights.specs.Lookup.{process_at, place_of, mapping_of}

@@ -1,23 +1,23 @@
-use Rattle.pm_words.proofs.ViewLemmas.{place_inside, sound_after_set, sound_stays, length_after_set, store_is, unchanged_is}
-use Rattle.pm_words.proofs.PlaceLemmas.{on_err}
+use Rattle.std.proofs.Common.{◌+◌, ◌*◌, ◌/◌, ◌≤◌, length, arith}
+use Rattle.pm_words.proofs.PlaceLemmas.{kept_here, kept_others, kept_marks, kept_looks}
+use Rattle.pm_words.proofs.ViewLemmas.{place_inside, sound_after_set, sound_stays, length_after_set, store_is}
 use Rattle.pm_words.proofs.memory.Words.store.Goals as goal
-
-pub invariant_of-self : goal.invariant_of-self
-invariant_of-self c =
-    let inside = place_inside _ _ _ _ _ c.self.view_is c.requires c.word_index-index.ensures.place in
-    sound_stays _ _ _ _ c.self.invariant (c.in_err-keep.ensures.pending _ inside c.self.invariant.pending) c.in_err-keep.ensures.marks
 
 pub invariant_of-self-2 : goal.invariant_of-self-2
 invariant_of-self-2 c =
     let inside = place_inside _ _ _ _ _ c.self.view_is c.requires c.word_index-index.ensures.place in
-    sound_after_set _ _ _ _ _ (sound_stays _ _ _ _ c.self.invariant (c.in_ok-keep.ensures.pending _ inside c.self.invariant.pending) c.in_ok-keep.ensures.marks)
-
-pub returns-in_err-keep-clause-err : goal.returns-in_err-keep-clause-err
-returns-in_err-keep-clause-err c = on_err _ (unchanged_is _ _ _ _ _ c.self.view_is c.in_err-keep.ensures.err c.in_err-keep.ensures.others c.in_err-keep.ensures.marks)
+    let whole = c.self.invariant.pages.whole in
+    let line : 8 * (c.word_index-index.result / 8) + 8 ≤ length c.self.inside.present.items = omega (arith, inside, whole) in
+    let kept = c.in_ok-keep.ensures in
+    sound_after_set _ _ _ _ _ (sound_stays _ _ _ _ c.self.invariant (kept.pending _ line c.self.invariant.pending)
+    (kept_looks _ _ c.word_index-index.result _ kept.ok kept.others kept.bound))
 
 pub returns-clause-ok : goal.returns-clause-ok
 returns-clause-ok c =
-    store_is _ _ _ _ _ _ _ _ c.self.view_is c.requires c.word_index-index.ensures.place c.index.ensures c.in_ok-keep.ensures.ok c.in_ok-keep.ensures.others c.in_ok-keep.ensures.marks
+    let place = c.word_index-index.result in
+    let kept = c.in_ok-keep.ensures in
+    store_is _ _ _ _ _ _ _ _ c.self.view_is c.requires c.word_index-index.ensures.place c.index.ensures
+    (kept_here _ _ place _ kept.ok kept.others kept.bound) (kept_others _ _ place _ kept.ok kept.others kept.bound) (kept_marks _ _ place _ kept.ok kept.others kept.bound)
 
 pub returns-clause-len : goal.returns-clause-len
 returns-clause-len c = length_after_set _ _ _ _ _ _ c.self.view_is

@@ -1,13 +1,18 @@
 use Rattle.std.proofs.Common.{sym, subst}
-use Rattle.std.proofs.lemmas.Result.{IfOk-weaker}
-use Rattle.tr_dispatch.specs.Sessions.{NextFrom}
+use Rattle.bus_model.specs.Machine.{IsAction}
+use Rattle.tr_types.specs.declared.action.Action.{Action}
+use Rattle.tr_types.specs.declared.entry.Mark.TheVariants.{Plain}
+use Rattle.tr_dispatch.specs.Sessions.{LeadsTo}
+use Rattle.tr_dispatch.specs.declared.session.SessionStep.TheVariants as step
 use Rattle.tr_dispatch.specs.declared.session.Stage.TheVariants as stage
-use Rattle.tr_dispatch.proofs.Exits.{map_gives}
+use Rattle.tr_dispatch.proofs.Exits.{map_built, map_gives}
 use Rattle.tr_dispatch.proofs.session.Session.map.Goals as goal
 
-pub returns : goal.returns
-returns c = record {
-  gives = IfOk-weaker c.kernel.result _ (NextFrom c.args.self.now.thread c.args.self.now.command.now stage.Finding c.args.answer.now)
-      (λ n is. subst (NextFrom c.args.self.now.thread c.args.self.now.command.now stage.Finding c.args.answer.now) (sym is)
-      (map_gives c.args.self.now.thread c.args.self.now.command.now c.args.answer.now c.in_ok-consulted_path.field-0 c.right_of.result c.in_ok-consulted_path.ensures c.right_of.ensures)) c.kernel.ensures;
-}
+pub returns-clause-built : goal.returns-clause-built
+returns-clause-built c = λ valid.
+    subst IsAction (sym c.in_ok-map.ensures) (map_built c.args.self.now.command c.in_ok-consulted_path.field-0 c.right_of.result valid c.in_ok-consulted_path.ensures c.right_of.ensures)
+
+pub returns-clause-gives : goal.returns-clause-gives
+returns-clause-gives c =
+    subst (λ (a : Action). LeadsTo c.args.self.now.thread c.args.self.now.command stage.Finding c.args.answer.now stage.Mapping (step.Act a Plain)) (sym c.in_ok-map.ensures)
+    (map_gives c.args.self.now.thread c.args.self.now.command c.args.answer.now c.in_ok-consulted_path.field-0 c.right_of.result c.in_ok-consulted_path.ensures c.right_of.ensures)

@@ -11,7 +11,7 @@ use Rattle.zo_ops.proofs.call.CallRun.fill.Goals.{in-Free-len1+in_ok-plan-in-Fre
 
 pub returns-clause-gives : goal.returns-clause-gives
 returns-clause-gives c = λ valid words tree phase k.
-    let command = c.args.self.now.command.now in
+    let command = c.args.self.now.command in
     let dir = c.args.self.now.coffer.dir.at in
     let head = c.args.head in
     let pages = c.args.pages.now in

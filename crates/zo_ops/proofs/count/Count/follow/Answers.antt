@@ -1,5 +1,5 @@
 use Rattle.std.proofs.Common.{◌≡◌, ℕ, ◌+◌, ◌<◌, sym, subst, arith}
-use Rattle.tr_types.specs.Denotes.{value}
+use Rattle.kern_model.specs.KernelView.{value}
 use Rattle.zo_ops.specs.Looking.{Counts}
 use Rattle.zo_ops.proofs.Places.{entry_address, entry_near}
 use Rattle.zo_ops.proofs.CountLemmas.{counts_end, counts_one}

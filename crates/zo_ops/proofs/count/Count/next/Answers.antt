@@ -1,7 +1,8 @@
 use Rattle.std.proofs.Common.{◌≡◌, ℕ, ◌<◌, ap, sym, subst, ◌∙◌, refl, arith}
 use Rattle.zo_ops.specs.Reach.{IsCofferWord}
 use Rattle.zo_layout.specs.Layout.{bucket_head}
-use Rattle.tr_types.specs.Denotes.{value, dir_of}
+use Rattle.kern_model.specs.KernelView.{value}
+use Rattle.tr_model.specs.Denotes.{dir_of}
 use Rattle.tr_types.specs.declared.action.Answer.TheVariants as answer
 use Rattle.zo_ops.specs.declared.count.Asked.TheVariants as count
 use Rattle.zo_ops.specs.Looking.{Counts}

@@ -1,7 +1,8 @@
 use Rattle.std.proofs.Common.{◌≡◌, ℕ, ◌+◌, ◌<◌, ap, sym, subst, ◌∙◌, refl, arith}
 use Rattle.zo_ops.specs.Reach.{IsCofferWord}
 use Rattle.zo_layout.specs.Layout.{bucket_head}
-use Rattle.tr_types.specs.Denotes.{value, dir_of}
+use Rattle.kern_model.specs.KernelView.{value}
+use Rattle.tr_model.specs.Denotes.{dir_of}
 use Rattle.zo_ops.specs.Looking.{count_below, Counts}
 use Rattle.zo_ops.proofs.Places.{head_reached}
 use Rattle.zo_ops.proofs.CountLemmas.{count_all, counts_first}

@@ -1,6 +1,6 @@
 use Rattle.std.proofs.Common.{◌<◌, ap, sym, subst, arith}
 use Rattle.zo_ops.specs.Reach.{IsCofferWord}
-use Rattle.tr_types.specs.Denotes.{value}
+use Rattle.kern_model.specs.KernelView.{value}
 use Rattle.zo_ops.specs.Looking.{Walks}
 use Rattle.zo_ops.proofs.Places.{entry_word, entry_near}
 use Rattle.zo_ops.proofs.LookLemmas.{walks_at, walks_end, at_place}

@@ -1,6 +1,6 @@
 use Rattle.std.proofs.Common.{◌*◌, ap, sym, subst, arith}
 use Rattle.zo_ops.specs.Reach.{IsCofferWord}
-use Rattle.tr_types.specs.Denotes.{value}
+use Rattle.kern_model.specs.KernelView.{value}
 use Rattle.zo_ops.proofs.Places.{entry_word}
 use Rattle.zo_ops.proofs.LookLemmas.{walks_at, at_place, name_word_address, agrees_all, entry_found}
 use Rattle.zo_ops.proofs.lookup.Lookup.letters.Goals as goal

@@ -1,0 +1,35 @@
+use Rattle.std.proofs.Common.{ℕ, ◌/◌, sym, ap, subst, ◌∙◌, arith, ◌≡◌}
+use Rattle.kern_model.specs.Kernel.{kernel_owner}
+use Rattle.bus_model.specs.Machine.{ThreadWasStarted, pkru_of, store_refusal}
+use Rattle.kern_model.specs.Rights.{store_fault}
+use Rattle.bus_machine.specs.View.{MachineView}
+use Rattle.bus_machine.specs.Ties.{bus_of}
+use Rattle.bus_machine.proofs.Accesses.{page_inside, store_by_rights}
+use Rattle.bus_machine.proofs.Started.{has_number}
+use Rattle.bus_machine.proofs.bus.Bus.store_refusal.Goals as goal
+
+pub overflow_cast-page : goal.overflow_cast-page
+overflow_cast-page c =
+    let self = c.self.inside in
+    let tied = c.self.invariant (ap (λ (v : MachineView). v.failed) c.self.view_is ∙ c.requires.works) in
+    let size = tied.mounted.working.size in
+    let word = sym c.has_word.ensures ∙ c.if-not-has_word.false in
+    let inside = page_inside self.words c.args.addr size word in
+    let most = size.most in
+    omega arith
+
+pub may_store-requires : goal.may_store-requires
+may_store-requires c = has_number c.self.inside.kernel.callers.threads c.args.thread (subst (λ (v : MachineView). ThreadWasStarted v.bus c.args.thread) (sym c.self.view_is) c.requires.started)
+
+pub returns : goal.returns
+returns c =
+    let self = c.self.inside in
+    let tied = c.self.invariant (ap (λ (v : MachineView). v.failed) c.self.view_is ∙ c.requires.works) in
+    let mounted = tied.mounted in
+    let word = sym c.has_word.ensures ∙ c.if-not-has_word.false in
+    let inside = page_inside self.words c.args.addr mounted.working.size word in
+    let bus = bus_of self.words self.kernel self.pkrus.items in
+    c.may_store.ensures.inside self.words mounted inside
+    ∙ ap (λ (pkru : ℕ). store_fault self.kernel.callers.threads self.kernel.holders c.args.thread pkru (kernel_owner self.words (c.args.addr / 4096))) (c.pkru_of.ensures ∙ ap (λ (v : MachineView). pkru_of v.bus c.args.thread) (sym c.self.view_is))
+    ∙ sym (store_by_rights bus c.args.thread c.args.addr word)
+    ∙ ap (λ (v : MachineView). store_refusal v.bus c.args.thread c.args.addr) c.self.view_is

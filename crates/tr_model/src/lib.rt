@@ -1,0 +1,2 @@
+//! One world for a whole trace, windows and confinement. Definitions alone.
+#![tactic(auto)]

@@ -1,0 +1,2 @@
+//! What users see and what words denote: trees, commands, marks. Definitions alone, over no machine.
+#![tactic(auto)]
