@@ -141,7 +141,7 @@ module _ (place : Place) (count : ℕ) (mapped : Mapped) (command : Command) (s 
   short_verdict asked free =
       cond-false s.seat.committed s.verdict (short_at s.coffers s.seat asked free s.verdict) k.ground.uncommitted
       ∙ cond-false (is_lost (consulted s.coffers s.seat.command)) Unjudged (short_of (answer s.coffers s.seat.cred s.seat.command) asked free s.verdict)
-          (ap is_lost (consults_alone k.ground.stands.tree s k.ground.stands.alone.coffers_are k.ground.stands.alone.path k.ground.stands.alone.below).consulted_is)
+      (ap is_lost (consults_alone k.ground.stands.tree s k.ground.stands.alone.coffers_are k.ground.stands.alone.path k.ground.stands.alone.below).consulted_is)
       ∙ ap (λ (a : Option Answered). short_of a asked free s.verdict) (lacks_changes place mapped command s k).0
 
   short_knows : (asked free : ℕ) → asked ≡ count → IsShort mapped command place asked free (short asked free)
