@@ -10,6 +10,7 @@ use Rattle.std.proofs.lemmas.Slice.Eq.{bytes_eq-Decides}
 use Rattle.pm_words.specs.Word.{Word}
 use Rattle.pm_words.specs.Memory.{word_at, HasPages}
 use Rattle.zo_layout.specs.Layout.{kernel_pages, owner_word, committed_word}
+use Rattle.zo_model.specs.Alone.{root_perm}
 use Rattle.zo_model.specs.Commands.{IsName, IsNameByte, IsPath}
 use Rattle.tr_types.specs.Paths.{in_first, parts_of, names_of}
 use Rattle.tr_types.specs.Paths.{same_text, is_name_byte, is_name_text, are_names_after, is_path_text, begins_with}
@@ -34,7 +35,7 @@ use Rattle.tr_types.specs.Permission.{refuses, is_in_group}
 use Rattle.tr_types.specs.Permission.{has_bit}
 use Rattle.kern_model.specs.Rights.{allows_writing, those_against, key_for, is_row_of, holds_itself, with_row, without_row, IsLeastOf}
 use Rattle.bus_model.specs.Machine.{Bus, callers_of}
-use Rattle.tr_model.specs.RootCoffer.{IsRootAlone, root_coffer, root_perm, found_at, root_mapped, IsGiven, MapAnswers, UnmapAnswers, EnlargeAnswers, holds_to_write, root_held}
+use Rattle.tr_model.specs.RootCoffer.{IsRootAlone, root_coffer, found_at, root_mapped, IsGiven, MapAnswers, UnmapAnswers, EnlargeAnswers, holds_to_write, root_held}
 use Rattle.kern_model.specs.Given.{pages_held, IsGivenTo, EnlargeLeaves}
 use Rattle.tr_types.specs.declared.permission.Cred.{Cred}
 use Rattle.tr_types.specs.declared.permission.Right.{Right}

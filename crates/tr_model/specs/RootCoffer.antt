@@ -5,6 +5,7 @@ use Rattle.std.specs.List.{range_with_len}
 use Rattle.pm_words.specs.Word.{Word}
 use Rattle.pm_words.specs.Memory.{word_at}
 use Rattle.zo_layout.specs.Layout.{page_at, word_of, committed_word, owner_word, coffer_table, root_control, root_page}
+use Rattle.zo_model.specs.Alone.{root_perm}
 use Rattle.zo_model.specs.Commands.{IsPath}
 use Rattle.kern_model.specs.Given.{pages_held}
 use Rattle.kern_model.specs.KernelView.{pages_of, owner_of, free_pages}
@@ -21,11 +22,7 @@ use Rattle.tr_types.specs.declared.kernel_call.KernAnswer.TheVariants.{Done as I
 use Rattle.tr_types.specs.declared.kernel_call.FoundAt.{FoundAt}
 use Rattle.tr_types.specs.declared.kernel_call.Holder.{Holder}
 use Rattle.tr_types.specs.declared.kernel_call.Mapped.{Mapped}
-use Rattle.tr_types.specs.declared.permission.Perm.{Perm}
 use Rattle.tr_types.specs.declared.permission.Right.{Right}
-
-abbrev pub root_perm : Perm
-root_perm = record { uid = 0; gid = 0; mode = 438 }
 
 abbrev pub found_at : List ℕ → FoundAt
 found_at path = record { id = 1; exact = (length path == 1); path_len = 1; perm = root_perm }

@@ -24,6 +24,7 @@ use Rattle.tr_types.specs.declared.kernel_call.Kcall.TheVariants.{Find, Map, Unm
 use Rattle.tr_types.specs.declared.permission.Cred.{Cred}
 use Rattle.tr_types.specs.declared.permission.Perm.{Perm}
 use Rattle.zo_model.specs.Tree.{Member, new_tree, same_names}
+use Rattle.zo_model.specs.Alone.{root_perm}
 use Rattle.zo_model.specs.CofferWords.{CofferAt, Denotes}
 use Rattle.zo_model.specs.Coffers.{Content, Ready, Lost, Quarantined, Coffer, names_below}
 use Rattle.zo_model.specs.Answers.{Answered, answer}
@@ -60,9 +61,6 @@ pub record World : Type 0 where
   pub verdicts : ℕ → Verdict
 
 -- the root coffer of a new image
-abbrev pub root_perm : Perm
-root_perm = record { uid = 0; gid = 0; mode = 438 }
-
 abbrev pub root_row : Row
 root_row = record { birth = 0; path = []; perm = root_perm; standing = IsReady }
 

@@ -24,13 +24,13 @@ pub data Use : Type 0 where
   Entries : (names : List (List ℕ)) → Use
 
 -- bytes of the path of these names: each has a `/` before it
-abbrev pub path_bytes : List (List ℕ) → ℕ
-path_bytes names = fold (λ bytes name. bytes + 1 + length name) 0 names
+abbrev pub path_len : List (List ℕ) → ℕ
+path_len names = fold (λ bytes name. bytes + 1 + length name) 0 names
 
 -- a path of at most 32 names and 1,024 bytes
 pub record IsInLimits (names : List (List ℕ)) : Type 0 where
   pub few : length names ≤ 32
-  pub short : path_bytes names ≤ 1024
+  pub short : path_len names ≤ 1024
 
 -- the file at the address `file` has these bytes; it has no map as long as none can be written
 abbrev pub HasBytes : (ℕ → ℕ) → ℕ → List ℕ → Type 0

@@ -33,7 +33,8 @@ pub record Scene : Type 0 where
   -- what is settled of its reply
   pub verdict : Verdict
 
--- the command consults the mapped coffer, which has this permission and this tree, and below it the coffers that stand there
+-- The command consults the coffer `mine` of those that users see. It has the path of the mapped one and holds this tree,
+-- and the mapped coffer has below it the coffers that stand directly below this path, and no others.
 pub record Consults (s : Scene) (mine : Coffer) (tree : List Member) : Type 0 where
   pub consulted_is : consulted s.coffers s.seat.command ≡ Some mine
   pub path_is : mine.path ≡ s.coffer.path
