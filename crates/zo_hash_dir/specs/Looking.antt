@@ -26,7 +26,7 @@ pub record Aim : Type 0 where
   pub visits : ℕ
 
 abbrev pub aim_of : Lookup → Aim
-aim_of l = record { dir = l.dir.at; name = l.name.bytes.now; purpose = l.purpose; visits = l.left }
+aim_of l = record { dir = l.dir.at; name = l.name; purpose = l.purpose; visits = l.left }
 
 -- the address of the first word of a name's bucket
 abbrev pub bucket_at : ℕ → List ℕ → ℕ
@@ -146,7 +146,7 @@ Gives l s step = GivesFor l (aim_of l) s step
 -- what a step leaves as it is
 pub record Keeps (old new : Lookup) : Type 0 where
   pub dir : new.dir ≡ old.dir
-  pub name : new.name.bytes.now ≡ old.name.bytes.now
+  pub name : new.name ≡ old.name
   pub purpose : new.purpose ≡ old.purpose
 
 -- the address of the word that was asked for
@@ -197,12 +197,17 @@ IsDamageAt asked (answer.Word x) visits dir name addr = IsBad asked visits x × 
 IsDamageAt asked answer visits dir name addr = addr ≡ led_by dir asked
 
 abbrev pub IsDamage : Lookup → Answer → ℕ → Type 0
-IsDamage l answer addr = IsDamageAt l.asked answer l.left l.dir.at l.name.bytes.now addr
+IsDamage l answer addr = IsDamageAt l.asked answer l.left l.dir.at l.name addr
 
 -- damage is told where it is, and nowhere else
 abbrev pub TellsDamage : LookStep → (ℕ → Type 0) → Type 0
 TellsDamage (look_step.Damaged addr) Damage = Damage addr
 TellsDamage step Damage = (addr : ℕ) → Damage addr → ⊥
+
+-- the target of a name that is found is one that the layout allows, whatever the words are
+abbrev pub FindsTarget : LookStep → Type 0
+FindsTarget (look_step.Found place target) = IsTarget target
+FindsTarget step = Unit {0}
 
 -- How many words are loaded at most once this one is answered: for each entry that may be visited its name's length, its name,
 -- and what it leads to; and two words of the directory.
@@ -219,7 +224,7 @@ loads_after (look.Free e) name visits = 1
 loads_after asked name visits = 0
 
 abbrev pub loads_left : Lookup → ℕ
-loads_left l = loads_after l.asked l.name.bytes.now l.left
+loads_left l = loads_after l.asked l.name l.left
 
 -- a step that loads leaves fewer loads than there were
 abbrev pub LoadsFewer : LookStep → ℕ → Lookup → Type 0

@@ -6,7 +6,7 @@ ghost use Rattle.tr_types.specs.declared.action.Answer.{Answer};
 ghost use Rattle.tr_types.specs.declared.action.Answer.TheVariants as answer;
 ghost use Rattle.zo_hash_dir.specs.Scene.{Scene, IsShown, CanMake};
 ghost use Rattle.zo_hash_dir.specs.Addresses.{IsTarget, IsEntryAddress, IsPageAddress};
-ghost use Rattle.zo_hash_dir.specs.Looking.{aim_of, bucket_at, Walks, Agrees, IsEnd, KnowsVisit, KnowsEnd, KnowsAt, Knows, Stands, Gives, Keeps, asked_word, led_by, LeadsAstray, IsNoLink, IsBad, IsDamage, TellsDamage, words_of_name, loads_after, loads_left, LoadsFewer, IsLast, HasWords};
+ghost use Rattle.zo_hash_dir.specs.Looking.{aim_of, bucket_at, Walks, Agrees, IsEnd, KnowsVisit, KnowsEnd, KnowsAt, Knows, Stands, Gives, Keeps, asked_word, led_by, LeadsAstray, IsNoLink, IsBad, IsDamage, TellsDamage, FindsTarget, words_of_name, loads_after, loads_left, LoadsFewer, IsLast, HasWords};
 
 use crate::addresses::{entry_link, is_target, loaded, page_link};
 use crate::name::Name;
@@ -18,10 +18,10 @@ use zo_layout::{
 use zo_plan::{Addr, Link, Place};
 
 /// Looks for a name in a directory.
-#[derive(Clone, Copy, Debug)]
-pub struct Lookup<'a> {
+#[derive(Debug, Drop)]
+pub struct Lookup {
     dir: Addr,
-    name: Name<'a>,
+    name: Name,
     purpose: Purpose,
     /// How many more entries are visited at most.
     left: u64,
@@ -85,16 +85,16 @@ pub enum LookStep {
     Damaged(u64),
 }
 
-impl<'a> Lookup<'a> {
+impl Lookup {
     /// Looks for a name in the directory at `dir`, in a coffer of this many pages. Of the place it tells the bucket and the entry;
     /// the directory's words are 0 there.
-    pub fn begin(dir: Addr, name: Name<'a>, pages: u32) -> Lookup<'a>
+    pub fn begin(dir: Addr, name: Name, pages: u32) -> Lookup
         ensures dir { result.dir ≡ dir }
-        ensures name { result.name.bytes.now ≡ name.entry.bytes.now }
+        ensures name { result.name ≡ name }
         ensures asked { result.asked ≡ Asked.Nothing }
         ensures purpose { result.purpose ≡ Purpose.Reading }
         ensures begins { (s : Scene) (first : Answer) → IsShown s dir.at pages → Knows result first s }
-        ensures bound { loads_left result ≡ 3 + 12 * pages * (3 + words_of_name name.entry.bytes.now) }
+        ensures bound { loads_left result ≡ 3 + 12 * pages * (3 + words_of_name name) }
     {
         Lookup {
             dir,
@@ -106,13 +106,13 @@ impl<'a> Lookup<'a> {
     }
 
     /// The same for a call that makes an entry of this name: where the name doesn't stand, the place tells the whole.
-    pub fn to_make(dir: Addr, name: Name<'a>, pages: u32) -> Lookup<'a>
+    pub fn to_make(dir: Addr, name: Name, pages: u32) -> Lookup
         ensures dir { result.dir ≡ dir }
-        ensures name { result.name.bytes.now ≡ name.entry.bytes.now }
+        ensures name { result.name ≡ name }
         ensures asked { result.asked ≡ Asked.Nothing }
         ensures purpose { result.purpose ≡ Purpose.Making }
         ensures begins { (s : Scene) (first : Answer) → IsShown s dir.at pages → CanMake s dir.at → Knows result first s }
-        ensures bound { loads_left result ≡ 3 + 12 * pages * (3 + words_of_name name.entry.bytes.now) }
+        ensures bound { loads_left result ≡ 3 + 12 * pages * (3 + words_of_name name) }
     {
         Lookup {
             purpose: Purpose::Making,
@@ -123,9 +123,10 @@ impl<'a> Lookup<'a> {
     /// Goes on with the answer to the last load. The first call has no use for its answer.
     pub fn next(&mut self, answer: &Answer) -> LookStep
         ensures keeps { Keeps self.old self.new }
-        ensures first { self.old.asked ≡ Asked.Nothing → result ≡ LookStep.Load (bucket_at self.old.dir.at self.old.name.bytes.now) }
+        ensures first { self.old.asked ≡ Asked.Nothing → result ≡ LookStep.Load (bucket_at self.old.dir.at self.old.name) }
         ensures gives { (s : Scene) → Knows self.old answer.now s → Gives self.new s result }
         ensures damaged { TellsDamage result (IsDamage self.old answer.now) }
+        ensures target { FindsTarget result }
         ensures fewer { LoadsFewer result (loads_left self.old) self.new }
     {
         if let Asked::Nothing = self.asked {
@@ -142,7 +143,8 @@ impl<'a> Lookup<'a> {
         ensures keeps { Keeps self.old self.new }
         ensures gives { (s : Scene) → Stands (aim_of self.old) s → KnowsAt self.old.asked (answer.Word word) (aim_of self.old) s → Gives self.new s result }
         ensures damaged { TellsDamage result (λ addr. IsBad self.old.asked self.old.left word
-            × (addr ≡ asked_word self.old.dir.at self.old.name.bytes.now self.old.asked)) }
+            × (addr ≡ asked_word self.old.dir.at self.old.name self.old.asked)) }
+        ensures target { FindsTarget result }
         ensures fewer { LoadsFewer result (loads_left self.old) self.new }
     {
         match self.asked {
@@ -174,7 +176,7 @@ impl<'a> Lookup<'a> {
 
     // The address of the word that has the first entry of the name's bucket.
     fn bucket(&self) -> u64
-        ensures { result ≡ bucket_at self.now.dir.at self.now.name.bytes.now }
+        ensures { result ≡ bucket_at self.now.dir.at self.now.name }
     {
         bucket_head(self.dir.at, self.name.bucket())
     }
@@ -183,7 +185,7 @@ impl<'a> Lookup<'a> {
         ensures keeps { Keeps self.old self.new }
         ensures aim { aim_of self.new ≡ aim_of self.old }
         ensures asked { self.new.asked ≡ asked }
-        ensures load { result ≡ LookStep.Load (asked_word self.old.dir.at self.old.name.bytes.now asked) }
+        ensures load { result ≡ LookStep.Load (asked_word self.old.dir.at self.old.name asked) }
     {
         self.asked = asked;
         LookStep::Load(match asked {
@@ -201,10 +203,11 @@ impl<'a> Lookup<'a> {
     // Goes on to the entry that the word at `before` leads to.
     fn follow(&mut self, head: u64, before: u64, word: u64) -> LookStep
         ensures keeps { Keeps self.old self.new }
-        ensures gives { (s : Scene) → Stands (aim_of self.old) s → Walks s self.old.dir.at self.old.name.bytes.now self.old.left before
-            → head ≡ s.at (bucket_at self.old.dir.at self.old.name.bytes.now) → word ≡ s.at before → Gives self.new s result }
+        ensures gives { (s : Scene) → Stands (aim_of self.old) s → Walks s self.old.dir.at self.old.name self.old.left before
+            → head ≡ s.at (bucket_at self.old.dir.at self.old.name) → word ≡ s.at before → Gives self.new s result }
         ensures damaged { TellsDamage result (λ addr. LeadsAstray self.old.left word × (addr ≡ before)) }
-        ensures fewer { LoadsFewer result (2 + self.old.left * (3 + words_of_name self.old.name.bytes.now)) self.new }
+        ensures target { FindsTarget result }
+        ensures fewer { LoadsFewer result (2 + self.old.left * (3 + words_of_name self.old.name)) self.new }
     {
         match entry_link(word) {
             Link::End => self.missing(End { head, before }),
@@ -226,7 +229,8 @@ impl<'a> Lookup<'a> {
         ensures gives { (s : Scene) → Stands (aim_of self.old) s → KnowsVisit (aim_of self.old) s visit
             → len ≡ s.at (layout.name_length visit.entry.at) → Gives self.new s result }
         ensures damaged { TellsDamage result (λ addr. ⊥) }
-        ensures fewer { LoadsFewer result (loads_after (Asked.Length visit) self.old.name.bytes.now self.old.left) self.new }
+        ensures target { FindsTarget result }
+        ensures fewer { LoadsFewer result (loads_after (Asked.Length visit) self.old.name self.old.left) self.new }
     {
         if len == self.name.as_bytes().len() as u64 {
             self.letters(visit, 0)
@@ -239,10 +243,11 @@ impl<'a> Lookup<'a> {
     fn compare(&mut self, visit: Visit, i: u32, word: u64) -> LookStep
         ensures keeps { Keeps self.old self.new }
         ensures gives { (s : Scene) → Stands (aim_of self.old) s → KnowsVisit (aim_of self.old) s visit
-            → Agrees s.at self.old.name.bytes.now visit.entry.at (8 * i) → 8 * i < length self.old.name.bytes.now
+            → Agrees s.at self.old.name visit.entry.at (8 * i) → 8 * i < length self.old.name
             → word ≡ s.at (layout.name_word visit.entry.at i) → Gives self.new s result }
         ensures damaged { TellsDamage result (λ addr. ⊥) }
-        ensures fewer { LoadsFewer result (loads_after (Asked.Letters visit i) self.old.name.bytes.now self.old.left) self.new }
+        ensures target { FindsTarget result }
+        ensures fewer { LoadsFewer result (loads_after (Asked.Letters visit i) self.old.name self.old.left) self.new }
     {
         match i.checked_add(1) {
             Some(next) if self.name.has_letters(i, word) => self.letters(visit, next),
@@ -254,9 +259,10 @@ impl<'a> Lookup<'a> {
     fn letters(&mut self, visit: Visit, i: u32) -> LookStep
         ensures keeps { Keeps self.old self.new }
         ensures gives { (s : Scene) → Stands (aim_of self.old) s → KnowsVisit (aim_of self.old) s visit
-            → Agrees s.at self.old.name.bytes.now visit.entry.at (8 * i) → Gives self.new s result }
+            → Agrees s.at self.old.name visit.entry.at (8 * i) → Gives self.new s result }
         ensures damaged { TellsDamage result (λ addr. ⊥) }
-        ensures fewer { LoadsFewer result (1 + loads_after (Asked.Letters visit i) self.old.name.bytes.now self.old.left) self.new }
+        ensures target { FindsTarget result }
+        ensures fewer { LoadsFewer result (1 + loads_after (Asked.Letters visit i) self.old.name self.old.left) self.new }
     {
         if self.name.has_word(i) {
             self.ask(Asked::Letters { visit, i })
@@ -266,9 +272,10 @@ impl<'a> Lookup<'a> {
     }
 
     fn found(&self, visit: Visit, target: u64) -> LookStep
-        ensures gives { (s : Scene) → Stands (aim_of self.now) s → KnowsVisit (aim_of self.now) s visit → name_at s.at visit.entry.at ≡ self.now.name.bytes.now
+        ensures gives { (s : Scene) → Stands (aim_of self.now) s → KnowsVisit (aim_of self.now) s visit → name_at s.at visit.entry.at ≡ self.now.name
             → target ≡ s.at (layout.entry_target visit.entry.at) → Gives self.now s result }
         ensures damaged { TellsDamage result (λ addr. (IsTarget target → ⊥) × (addr ≡ layout.entry_target visit.entry.at)) }
+        ensures target { FindsTarget result }
         ensures ends { IsLast result }
     {
         if is_target(target) {
@@ -285,6 +292,7 @@ impl<'a> Lookup<'a> {
         ensures keeps { Keeps self.old self.new }
         ensures gives { (s : Scene) → Stands (aim_of self.old) s → KnowsEnd (aim_of self.old) s end → Gives self.new s result }
         ensures damaged { TellsDamage result (λ addr. ⊥) }
+        ensures target { FindsTarget result }
         ensures fewer { LoadsFewer result 2 self.new }
     {
         match self.purpose {
@@ -301,6 +309,7 @@ impl<'a> Lookup<'a> {
         ensures gives { (s : Scene) → Stands (aim_of self.old) s → KnowsEnd (aim_of self.old) s end → self.old.purpose ≡ Purpose.Making
             → word ≡ s.at (layout.first_free_entry self.old.dir.at) → Gives self.new s result }
         ensures damaged { TellsDamage result (λ addr. IsNoLink IsEntryAddress word × (addr ≡ layout.first_free_entry self.old.dir.at)) }
+        ensures target { FindsTarget result }
         ensures fewer { LoadsFewer result 1 self.new }
     {
         match entry_link(word) {
@@ -315,6 +324,7 @@ impl<'a> Lookup<'a> {
         ensures gives { (s : Scene) → Stands (aim_of self.now) s → KnowsEnd (aim_of self.now) s end → self.now.purpose ≡ Purpose.Making
             → free.at ≡ s.at (layout.first_free_entry self.now.dir.at) → word ≡ s.at (layout.next_entry free.at) → Gives self.now s result }
         ensures damaged { TellsDamage result (λ addr. IsNoLink IsEntryAddress word × (addr ≡ layout.next_entry free.at)) }
+        ensures target { FindsTarget result }
         ensures ends { IsLast result }
     {
         match entry_link(word) {
@@ -338,6 +348,7 @@ impl<'a> Lookup<'a> {
         ensures gives { (s : Scene) → Stands (aim_of self.now) s → KnowsEnd (aim_of self.now) s end → self.now.purpose ≡ Purpose.Making
             → s.at (layout.first_free_entry self.now.dir.at) ≡ 0 → word ≡ s.at (layout.first_entry_page self.now.dir.at) → Gives self.now s result }
         ensures damaged { TellsDamage result (λ addr. IsNoLink IsPageAddress word × (addr ≡ layout.first_entry_page self.now.dir.at)) }
+        ensures target { FindsTarget result }
         ensures ends { IsLast result }
     {
         match page_link(word) {
@@ -358,7 +369,7 @@ impl<'a> Lookup<'a> {
 
     // A place of which no more is told than its bucket and its entry.
     fn place(&self, head: u64, before: u64, entry: u64) -> Place
-        ensures bucket { result.bucket ≡ bucket_at self.now.dir.at self.now.name.bytes.now }
+        ensures bucket { result.bucket ≡ bucket_at self.now.dir.at self.now.name }
         ensures head { result.head ≡ head }
         ensures before { result.before ≡ before }
         ensures entry { result.entry ≡ entry }

@@ -1,5 +1,6 @@
 // Look-ups over a few words.
 use crate::{ListRun, ListStep, LookStep, Lookup, Name};
+use std::alloc::{AllocError, Global};
 use std::process::Abort;
 use tr_types::{Answer, FaultKind};
 use zo_plan::{Addr, Place};
@@ -48,6 +49,10 @@ fn after(rt: &impl Abort, words: &[(u64, u64)], mut lookup: Lookup, loads: &[u64
     step
 }
 
+fn named(alloc: Global, name: &[u8]) -> Result<Name, AllocError> {
+    Ok(Name::new(Vec::from_slice(alloc, name)?))
+}
+
 fn place(before: u64, entry: u64) -> Place {
     Place {
         bucket: HEAD,
@@ -61,9 +66,9 @@ fn place(before: u64, entry: u64) -> Place {
 }
 
 #[test]
-fn names_are_found_with_the_word_that_leads_to_them(rt: HostRuntime) {
+fn names_are_found_with_the_word_that_leads_to_them(rt: HostRuntime) -> Result<(), AllocError> {
     let dir = Addr { at: DIR };
-    let lookup = Lookup::begin(dir, Name::new(b"bH"), 1);
+    let lookup = Lookup::begin(dir, named(rt.alloc(), b"bH")?, 1);
     let loads = [
         HEAD,
         FIRST + 16,
@@ -78,10 +83,11 @@ fn names_are_found_with_the_word_that_leads_to_them(rt: HostRuntime) {
         after(&rt, &WORDS, lookup, &loads),
         LookStep::Found { place, target: 1 }
     );
+    Ok(())
 }
 
 #[test]
-fn missing_names_tell_the_free_entry_where_one_is_made(rt: HostRuntime) {
+fn missing_names_tell_the_free_entry_where_one_is_made(rt: HostRuntime) -> Result<(), AllocError> {
     let dir = Addr { at: DIR };
     let loads = [
         HEAD,
@@ -92,22 +98,23 @@ fn missing_names_tell_the_free_entry_where_one_is_made(rt: HostRuntime) {
         SECOND + 24,
         SECOND,
     ];
-    let read = Lookup::begin(dir, Name::new(b"e-"), 1);
+    let read = Lookup::begin(dir, named(rt.alloc(), b"e-")?, 1);
     assert_eq!(rt;
         after(&rt, &WORDS, read, &loads),
         LookStep::Missing {
             place: place(SECOND, 0)
         }
     );
-    let make = Lookup::to_make(dir, Name::new(b"e-"), 1);
+    let make = Lookup::to_make(dir, named(rt.alloc(), b"e-")?, 1);
     assert_eq!(rt; after(&rt, &WORDS, make, &loads), LookStep::Load(DIR + 40));
+    Ok(())
 }
 
 #[test]
-fn words_that_lead_astray_are_damage(rt: HostRuntime) {
+fn words_that_lead_astray_are_damage(rt: HostRuntime) -> Result<(), AllocError> {
     let dir = Addr { at: DIR };
     for (head, damaged) in [(FIRST + 8, HEAD), (FIRST, HEAD), (1 << 60, HEAD)] {
-        let lookup = Lookup::begin(dir, Name::new(b"e-"), 1);
+        let lookup = Lookup::begin(dir, named(rt.alloc(), b"e-")?, 1);
         let words = [(HEAD, head)];
         let mut loads = 1;
         if head == FIRST {
@@ -116,6 +123,7 @@ fn words_that_lead_astray_are_damage(rt: HostRuntime) {
         let step = after(&rt, &words, lookup, &[HEAD, FIRST + 16][..loads]);
         assert_eq!(rt; step, LookStep::Damaged(damaged));
     }
+    Ok(())
 }
 
 #[test]

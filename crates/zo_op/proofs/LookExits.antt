@@ -48,7 +48,7 @@ one_name (Stat path) (inr one) some = one
 
 -- a look-up that begins
 pub look_begins : (mapped : Mapped) (command : Command) (look : Lookup) (dir : ℕ) (given : Answer) (s : Scene) → BeginKnows mapped command s → dir ≡ page_at mapped.root → look.dir.at ≡ dir
-    → look.name.bytes.now ≡ name_of command → look.purpose ≡ purpose_of command → 0 < length (name_of command)
+    → look.name ≡ name_of command → look.purpose ≡ purpose_of command → 0 < length (name_of command)
     → ((seen : Seen) (first : Answer) → IsShown seen dir mapped.pages → CanMake seen dir → LookKnows look first seen) → LookingKnows mapped command look given s
 look_begins mapped command look dir given s (k, unasked) at dir_is name purpose some begins = record {
   ground = k;
@@ -161,16 +161,6 @@ finds_loaded file addr mapped command s k = record {
   stands = k.stands;
   file_is = k.file_is;
 }
-
--- a target is an address
-pub found_some : (target : ℕ) (mapped : Mapped) (command : Command) (s : Scene) → FoundKnows target mapped command s → (0 < target) × (target < 2 ^ 60)
-found_some target mapped command s k =
-    let found = stands_at mapped command s k.ground (name_of command) target k.wanted in
-    let page = k.ground.coffer.each _ (file_member mapped command s k.ground (name_of command) found.0 found.1).coffers in
-    let is = found.2 in
-    let some = page.0 in
-    let near = page.1 in
-    (omega (arith, is, some), omega (arith, is, near))
 
 -- the word of the file's kind is loaded
 pub kind_load_gives : (target : ℕ) (file : Addr) (addr : ℕ) (mapped : Mapped) (command : Command) (s : Scene) → IsStat command → file.at ≡ target → addr ≡ page_kind file.at → FoundKnows target mapped command s

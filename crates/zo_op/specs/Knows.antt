@@ -95,7 +95,7 @@ purpose_of (Stat path) = Reading
 -- the look-up is for the command's name in the root directory
 pub record IsLookFor (mapped : Mapped) (command : Command) (look : Lookup) : Type 0 where
   pub dir : look.dir.at ≡ page_at mapped.root
-  pub name : look.name.bytes.now ≡ name_of command
+  pub name : look.name ≡ name_of command
   pub some : 0 < length (name_of command)
   pub purpose : look.purpose ≡ purpose_of command
 
@@ -199,7 +199,6 @@ MayPutAll (d ∷ left) s = MayPut d s × MayPutAll left (stored d s)
 
 -- what a call knows that is at this stage, with the answer that it gets next
 abbrev pub StageKnows : Mapped → Command → Stage → Answer → Scene → Type 0
-StageKnows mapped command stage.Begin given s = BeginKnows mapped command s
 StageKnows mapped command (stage.Looking look) given s = LookingKnows mapped command look given s
 StageKnows mapped command (stage.Counting count) given s = CountingKnows mapped command count given s
 StageKnows mapped command (stage.Kind file) given s = Finds mapped command file.at s × (given ≡ WordIs (s.at (page_kind file.at)))
@@ -210,9 +209,13 @@ StageKnows mapped command (stage.Drawing place) given s = DrawingKnows mapped co
 StageKnows mapped command (stage.Storing run) given s = (given ≡ Done) × MayPutAll run.left s
 StageKnows mapped command stage.Over given s = ⊥
 
+-- where a call begins at this stage, all is known that this stage needs
+abbrev pub BeginsAt : Mapped → Command → Stage → Type 0
+BeginsAt mapped command stage = (first : Answer) (s : Scene) → BeginKnows mapped command s → StageKnows mapped command stage first s
+
 -- what a call knows with the answer that it gets next
 abbrev pub OpKnows : OpRun → Answer → Scene → Type 0
-OpKnows op given s = StageKnows op.mapped op.command.now op.stage given s
+OpKnows op given s = StageKnows op.mapped op.command op.stage given s
 
 -- What a call gives with an action, after which it is at this stage, and with its reply.
 abbrev pub Gives : Mapped → Command → Stage → OpStep → Scene → Type 0
@@ -221,11 +224,11 @@ Gives mapped command later (step.Over reply) s = OverGives reply s × Stands s
 
 -- what it gives where it knew what its stage asked for with the answer
 abbrev pub StepsFrom : OpRun → Answer → OpRun → OpStep → Type 0
-StepsFrom old given new step = (s : Scene) → OpKnows old given s → Gives new.mapped new.command.now new.stage step s
+StepsFrom old given new step = (s : Scene) → OpKnows old given s → Gives new.mapped new.command new.stage step s
 
 -- the same within a step, where this was known of the scene
 abbrev pub After : OpRun → (Mapped → Command → Scene → Type 0) → OpRun → OpStep → Type 0
-After old Known new step = (s : Scene) → Known old.mapped old.command.now s → Gives old.mapped old.command.now new.stage step s
+After old Known new step = (s : Scene) → Known old.mapped old.command s → Gives old.mapped old.command new.stage step s
 
 -- What is known where a name was found, with its target, and where none was, with the place for it; and where the pool has
 -- shown no page.
@@ -247,4 +250,4 @@ PoolKnows place mapped command s = Lacks mapped command place s × IsUnasked s �
 -- the coffer and the command stay
 pub record IsSameCall (old new : OpRun) : Type 0 where
   pub mapped : new.mapped ≡ old.mapped
-  pub command : new.command.now ≡ old.command.now
+  pub command : new.command ≡ old.command

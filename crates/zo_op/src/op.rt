@@ -4,10 +4,11 @@ ghost use Rattle.zo_layout.specs.Layout.{page_at, pool_head};
 ghost use Rattle.tr_types.specs.declared.action.Answer.{Answer};
 ghost use Rattle.tr_types.specs.declared.kernel_call.Mapped.{Mapped};
 ghost use Rattle.zo_model.specs.Steps.{Scene};
+ghost use Rattle.zo_hash_dir.specs.Addresses.{IsTarget};
 ghost use Rattle.zo_hash_dir.specs.Looking.{Knows as LookKnows};
 ghost use Rattle.zo_hash_dir.specs.Scene.{Scene as Seen, IsShown, CanMake};
 ghost use Rattle.zo_op.specs.Acts.{IsStep};
-ghost use Rattle.zo_op.specs.Knows.{BeginKnows, FoundKnows, MissingKnows, PoolKnows, Drew, StageKnows, OpKnows, StepsFrom, After, IsSameCall, name_of, purpose_of};
+ghost use Rattle.zo_op.specs.Knows.{BeginKnows, FoundKnows, MissingKnows, PoolKnows, Drew, StageKnows, OpKnows, StepsFrom, After, IsSameCall, BeginsAt, name_of as name_of_command, purpose_of};
 ghost use Rattle.zo_op.specs.declared.op.Stage.TheVariants as stage;
 
 use sqlite_items::Boxed;
@@ -23,10 +24,10 @@ const ROOT_MODE: u16 = 0o666;
 
 /// A running call of a command in a coffer that its thread has mapped.
 #[derive(Debug, Drop)]
-pub struct OpRun<'a> {
+pub struct OpRun {
     mapped: Mapped,
-    command: &'a Command,
-    stage: Stage<'a>,
+    command: Command,
+    stage: Stage,
 }
 
 /// What a call does next.
@@ -39,10 +40,9 @@ pub enum OpStep {
 
 /// What the call waits for.
 #[derive(Debug, Drop)]
-enum Stage<'a> {
-    Begin,
+enum Stage {
     /// A word of the directory, in which the command's name is looked for.
-    Looking(Lookup<'a>),
+    Looking(Lookup),
     /// A word of the directory, whose names are counted.
     Counting(ListRun),
     /// The kind of the file's page.
@@ -55,21 +55,32 @@ enum Stage<'a> {
     Drawing(Place),
     /// A store of the plan.
     Storing(PlanRun),
+    /// Nothing: the call is over, or its coffer has no root page.
     Over,
 }
 
-impl<'a> OpRun<'a> {
+impl OpRun {
     /// A thread's call of a command in the coffer that it has mapped, by a caller with these credentials.
-    pub fn begin(_thread: u16, _cred: Cred, command: &'a Command, mapped: Mapped) -> OpRun<'a>
-        ensures mapped { result.mapped ≡ mapped }
-        ensures command { result.command.now ≡ command.now }
-        ensures knows { (first : Answer) (s : Scene) → BeginKnows mapped command.now s → OpKnows result first s }
+    pub fn begin(
+        alloc: Global,
+        _thread: u16,
+        _cred: Cred,
+        command: Command,
+        mapped: Mapped,
+    ) -> Result<OpRun, AllocError>
+        ensures mapped { IfOk result (λ op. op.mapped ≡ mapped) }
+        ensures command { IfOk result (λ op. op.command ≡ command) }
+        ensures knows { (first : Answer) (s : Scene) → BeginKnows mapped command s → IfOk result (λ op. OpKnows op first s) }
     {
-        OpRun {
+        let stage = match Addr::of_page(mapped.root) {
+            Some(dir) => first_stage(alloc, dir, &command, mapped.pages)?,
+            None => Stage::Over,
+        };
+        Ok(OpRun {
             mapped,
             command,
-            stage: Stage::Begin,
-        }
+            stage,
+        })
     }
 
     /// Goes on with the answer to the last action, at a tick. The first call has no use for its answer.
@@ -79,7 +90,6 @@ impl<'a> OpRun<'a> {
         ensures gives { IfOk result (StepsFrom self.old answer.now self.new) }
     {
         match mem::replace(&mut self.stage, Stage::Over) {
-            Stage::Begin => Ok(self.first()),
             Stage::Looking(look) => Ok(self.look(look, answer)),
             Stage::Counting(count) => Ok(self.count(count, answer)),
             Stage::Kind { file } => Ok(self.kind(file, answer)),
@@ -91,63 +101,14 @@ impl<'a> OpRun<'a> {
         }
     }
 
-    // The name that the command's path has in the directory; none for `/`.
-    fn name(&self) -> &'a [u8]
-        ensures { result.now ≡ name_of self.now.command.now }
-    {
-        let path = match self.command {
-            Command::Create { path, .. } | Command::Stat { path } => path.as_bytes(),
-        };
-        if path.is_empty() { path } else { &path[1..] }
-    }
-
-    fn load(&mut self, addr: u64, stage: Stage<'a>) -> OpStep
+    fn load(&mut self, addr: u64, stage: Stage) -> OpStep
         ensures call { IsSameCall self.old self.new }
         ensures acts { IsStep self.old.mapped result }
-        ensures stage { self.new.stage ≡ stage.entry }
+        ensures stage { self.new.stage ≡ stage }
         ensures step { result ≡ OpStep.Act (Action.Load addr) Mark.Plain }
     {
         self.stage = stage;
         OpStep::Act(Action::Load(addr), Mark::Plain)
-    }
-
-    fn first(&mut self) -> OpStep
-        ensures call { IsSameCall self.old self.new }
-        ensures acts { IsStep self.old.mapped result }
-        ensures gives { After self.old BeginKnows self.new result }
-    {
-        match Addr::of_page(self.mapped.root) {
-            Some(dir) => self.begin_in(dir),
-            None => damaged(page_at(self.mapped.root)),
-        }
-    }
-
-    // Begins in the root directory, at this address.
-    fn begin_in(&mut self, dir: Addr) -> OpStep
-        ensures call { IsSameCall self.old self.new }
-        ensures acts { IsStep self.old.mapped result }
-        ensures gives { dir.at ≡ page_at self.old.mapped.root → After self.old BeginKnows self.new result }
-    {
-        if self.name().is_empty() {
-            let list = ListRun::begin(dir, self.mapped.pages);
-            return self.count(list, &Answer::Done);
-        }
-        let look = self.lookup(dir);
-        self.look(look, &Answer::Done)
-    }
-
-    // The look for the command's name. A place for it is wanted where one is to be made.
-    fn lookup(&self, dir: Addr) -> Lookup<'a>
-        ensures dir { result.dir ≡ dir }
-        ensures name { result.name.bytes.now ≡ name_of self.now.command.now }
-        ensures purpose { result.purpose ≡ purpose_of self.now.command.now }
-        ensures begins { (s : Seen) (first : Answer) → IsShown s dir.at self.now.mapped.pages → CanMake s dir.at → LookKnows result first s }
-    {
-        let name = Name::new(self.name());
-        match self.command {
-            Command::Create { .. } => Lookup::to_make(dir, name, self.mapped.pages),
-            Command::Stat { .. } => Lookup::begin(dir, name, self.mapped.pages),
-        }
     }
 
     fn count(&mut self, mut count: ListRun, answer: &Answer) -> OpStep
@@ -164,10 +125,10 @@ impl<'a> OpRun<'a> {
         }
     }
 
-    fn look(&mut self, mut look: Lookup<'a>, answer: &Answer) -> OpStep
+    fn look(&mut self, mut look: Lookup, answer: &Answer) -> OpStep
         ensures call { IsSameCall self.old self.new }
         ensures acts { IsStep self.old.mapped result }
-        ensures gives { After self.old (λ m c. StageKnows m c (stage.Looking look.entry) answer.now) self.new result }
+        ensures gives { After self.old (λ m c. StageKnows m c (stage.Looking look) answer.now) self.new result }
     {
         match look.next(answer) {
             LookStep::Load(addr) => self.load(addr, Stage::Looking(look)),
@@ -179,6 +140,7 @@ impl<'a> OpRun<'a> {
 
     // The name stands, with this target.
     fn found(&mut self, target: u64) -> OpStep
+        requires { IsTarget target }
         ensures call { IsSameCall self.old self.new }
         ensures acts { IsStep self.old.mapped result }
         ensures gives { After self.old (FoundKnows target) self.new result }
@@ -187,8 +149,8 @@ impl<'a> OpRun<'a> {
             Command::Create { .. } => OpStep::Over(Reply::Exists),
             Command::Stat { .. } => match Link::of(target) {
                 Link::To(file) => self.load(page_kind(file.at), Stage::Kind { file }),
-                Link::End => damaged(target),
-                Link::Astray => damaged(target),
+                // No target is such a word.
+                Link::End | Link::Astray => unreachable!(),
             },
         }
     }
@@ -290,7 +252,8 @@ impl<'a> OpRun<'a> {
         }
     }
 
-    // The pages are drawn, and the plan can be made.
+    // The pages are drawn, and the plan can be made. A coffer without a root page has none to link in: its control page is
+    // told.
     fn fill(
         &mut self,
         alloc: Global,
@@ -304,7 +267,7 @@ impl<'a> OpRun<'a> {
     {
         match Addr::of_page(self.mapped.root) {
             Some(dir) => self.fill_in(alloc, dir, place, pages, now),
-            None => Ok(damaged(page_at(self.mapped.root))),
+            None => Ok(damaged(page_at(self.mapped.control))),
         }
     }
 
@@ -329,7 +292,7 @@ impl<'a> OpRun<'a> {
             at: file,
             word: Operand::Known(KIND_FILE),
         };
-        let link = plan_link(alloc, dir, &place, self.name(), file)?;
+        let link = plan_link(alloc, dir, &place, name_of(&self.command), file)?;
         let plan = link.prepared_by(kind, 1)?;
         let run = PlanRun::begin(plan, Vec::from_slice(alloc, pages)?);
         Ok(self.store(run, &Answer::Done, now))
@@ -350,6 +313,42 @@ impl<'a> OpRun<'a> {
             Step::Damaged(addr) => damaged(addr),
         }
     }
+}
+
+// What a call begins with in the directory at this address: a look for its command's name, or a count of the directory's names
+// where the command is for the directory itself.
+fn first_stage(alloc: Global, dir: Addr, command: &Command, pages: u32) -> Result<Stage, AllocError>
+    ensures { (mapped : Mapped) → dir.at ≡ page_at mapped.root → pages ≡ mapped.pages → IfOk result (BeginsAt mapped command.now) }
+{
+    let name = name_of(command);
+    if name.is_empty() {
+        return Ok(Stage::Counting(ListRun::begin(dir, pages)));
+    }
+    let name = Name::new(Vec::from_slice(alloc, name)?);
+    Ok(Stage::Looking(look_for(dir, name, command, pages)))
+}
+
+// The look for the command's name. A place for it is wanted where one is to be made.
+fn look_for(dir: Addr, name: Name, command: &Command, pages: u32) -> Lookup
+    ensures dir { result.dir ≡ dir }
+    ensures name { result.name ≡ name }
+    ensures purpose { result.purpose ≡ purpose_of command.now }
+    ensures begins { (s : Seen) (first : Answer) → IsShown s dir.at pages → CanMake s dir.at → LookKnows result first s }
+{
+    match command {
+        Command::Create { .. } => Lookup::to_make(dir, name, pages),
+        Command::Stat { .. } => Lookup::begin(dir, name, pages),
+    }
+}
+
+// The name that a command's path has in the root directory; none for `/`.
+fn name_of(command: &Command) -> &[u8]
+    ensures { result.now ≡ name_of_command command.now }
+{
+    let path = match command {
+        Command::Create { path, .. } | Command::Stat { path } => path.as_bytes(),
+    };
+    if path.is_empty() { path } else { &path[1..] }
 }
 
 // Whether an action was answered with this word.

@@ -5,7 +5,7 @@ use Rattle.zo_hash_dir.proofs.lookup.Lookup.begin.Goals as goal
 
 pub returns-clause-begins : goal.returns-clause-begins
 returns-clause-begins c s first shown =
-    let name = c.args.name.bytes.now in
+    let name = c.args.name in
     record {
       stands = record { target = λ target is. shown.targets name target is; make = λ making. absurd (cc) };
       at = subst (λ (n : ℕ). Walks s c.args.dir.at name (12 * n) (bucket_at c.args.dir.at name)) (sym c.from.ensures)

@@ -1,15 +1,8 @@
-use Rattle.std.proofs.Common.{arith}
-use Rattle.zo_op.proofs.LookExits.{is_create, is_stat, exists_gives, kind_load_gives, found_some}
+use Rattle.zo_op.proofs.LookExits.{is_create, is_stat, exists_gives, kind_load_gives}
 use Rattle.zo_op.proofs.op.OpRun.found.Goals as goal
 
 pub returns-in-Create-clause-gives : goal.returns-in-Create-clause-gives
-returns-in-Create-clause-gives c = λ s k. exists_gives c.args.target c.args.self.now.mapped c.args.self.now.command.now s (is_create _ _ _ c.in-Create.is) k
+returns-in-Create-clause-gives c = λ s k. exists_gives c.args.target c.args.self.now.mapped c.args.self.now.command s (is_create _ _ _ c.in-Create.is) k
 
 pub returns-in-To-clause-gives : goal.returns-in-To-clause-gives
-returns-in-To-clause-gives c = rw (c.load.ensures.stage, c.load.ensures.step) (λ s k. kind_load_gives c.args.target c.in-To.file c.page_kind.result c.args.self.now.mapped c.args.self.now.command.now s (is_stat _ _ c.in-Stat.is) (c.of.ensures.to c.in-To.file c.in-To.is) c.page_kind.ensures k)
-
-pub returns-in-End-clause-gives : goal.returns-in-End-clause-gives
-returns-in-End-clause-gives c = λ s k. let some = (found_some c.args.target c.args.self.now.mapped c.args.self.now.command.now s k).0 in let none = c.of.ensures.end.0 c.in-End.is in absurd (omega (arith, some, none))
-
-pub returns-in-Astray-clause-gives : goal.returns-in-Astray-clause-gives
-returns-in-Astray-clause-gives c = λ s k. let near = (found_some c.args.target c.args.self.now.mapped c.args.self.now.command.now s k).1 in let far = c.of.ensures.astray.0 c.in-Astray.is in absurd (omega (arith, near, far))
+returns-in-To-clause-gives c = rw (c.load.ensures.stage, c.load.ensures.step) (λ s k. kind_load_gives c.args.target c.in-To.file c.page_kind.result c.args.self.now.mapped c.args.self.now.command s (is_stat _ _ c.in-Stat.is) (c.of.ensures.to c.in-To.file c.in-To.is) c.page_kind.ensures k)
