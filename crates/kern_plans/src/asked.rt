@@ -5,7 +5,7 @@ ghost use Rattle.kern_model.specs.Kernel as kernel;
 ghost use Rattle.kern_model.specs.KernelCalls as calls;
 ghost use Rattle.kern_plans.specs.Asked.{IsKnown};
 
-use crate::giving::NOBODY;
+use kern_model::NOBODY;
 use kern_pages::{Owners, owners_law};
 use page_rights::Tables;
 use pm_words::{NoMemory, Words};

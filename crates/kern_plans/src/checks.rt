@@ -24,7 +24,7 @@ use tr_types::{KernAnswer, Path};
 use zo_layout::{PAGE_BYTES, WORD_BYTES};
 
 /// The most bytes of a coffer's path.
-const MOST_PATH_BYTES: usize = 440;
+const MOST_PATH_BYTES: usize = kern_model::LONGEST_PATH as usize;
 
 /// Refuses where the test holds.
 pub(crate) fn refuse_where(refused: bool, refusal: KernAnswer) -> Result<(), KernAnswer>

@@ -7,9 +7,6 @@ use pm_words::Words;
 use std::alloc::AllocError;
 use zo_layout::owner_word;
 
-/// The owner of a page that is nobody's.
-pub const NOBODY: u16 = 0;
-
 /// One of some pages, or 0.
 pub fn page_of(pages: &[u32], i: usize) -> u32
     ensures { result ≡ slice_index_or pages.now i 0 }

@@ -10,9 +10,10 @@ ghost use Rattle.kern_plans.specs.Refusals.{TellsFirstDue};
 
 use crate::asked::Asked;
 use crate::checks::{check_leaving, check_linking, refusal_of};
-use crate::giving::{NOBODY, pass_pages};
+use crate::giving::pass_pages;
 use crate::linking::{Link, Linking};
 use crate::planned::Planned;
+use kern_model::NOBODY;
 use kern_roots::drop_entry;
 use std::alloc::{AllocError, Global};
 use tr_types::KernAnswer;

@@ -7,12 +7,10 @@ ghost use Rattle.kern_plans.specs.Stored.{plan_of};
 use crate::asked::Asked;
 use crate::giving::pass_pages;
 use crate::planned::Planned;
+use kern_model::MOST_GIVEN;
 use sqlite_items::Items;
 use std::alloc::{AllocError, Global};
 use tr_types::{KernAnswer, Pages};
-
-// The most pages that one call gives.
-const MOST_PAGES: u32 = 1024;
 
 /// The least free pages, so many, become the coffer's. `NotHeld` where the caller doesn't hold it for
 /// writing, `BadCount` where the count isn't 1 to 1,024, `NoPages` where fewer are free.
@@ -39,7 +37,7 @@ pub fn enlarge(alloc: Global, asked: &Asked, id: u16, count: u32) -> Result<Plan
 fn is_bad_count(count: u32) -> bool
     ensures { result ≡ ((count == 0) || nat_lt 1024 count) }
 {
-    count == 0 || MOST_PAGES < count
+    count == 0 || MOST_GIVEN < count
 }
 
 // The plan that makes so many free pages the coffer's.

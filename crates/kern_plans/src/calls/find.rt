@@ -10,10 +10,10 @@ use pm_words::Words;
 use tr_types::{FoundAt, KernAnswer, Path};
 
 /// The most bytes of a path that is looked for.
-const MOST_BYTES: usize = 1024;
+const MOST_BYTES: usize = kern_model::LONGEST_LOOK as usize;
 
 /// The most names of a path that is looked for.
-const MOST_NAMES: usize = 32;
+const MOST_NAMES: usize = kern_model::MOST_NAMES as usize;
 
 /// The coffer of a path, and of a second one where it is given. `BadPath` where one of them has over
 /// 1,024 bytes or 32 names. Takes no memory.

@@ -14,10 +14,11 @@ ghost use Rattle.kern_plans.specs.Stored.{merged_pairs};
 
 use crate::asked::Asked;
 use crate::checks::{check_leaving, check_linking, count_each, count_of};
-use crate::giving::{NOBODY, pass_pages};
+use crate::giving::pass_pages;
 use crate::linking::{Link, Linking};
 use crate::owning::named_root;
 use crate::planned::Planned;
+use kern_model::NOBODY;
 use kern_roots::{RootsFault, drop_entry};
 use pm_words::Words;
 use std::alloc::{AllocError, Global};

@@ -9,7 +9,7 @@ use std::alloc::Global;
 use tr_types::KernAnswer;
 
 /// The number under which the recovery calls.
-const RECOVERY: u16 = 256;
+const RECOVERY: u16 = kern_model::NO_THREAD;
 
 /// The coffer is ready, or quarantined. `NotHeld` to all but the recovery, `NoCoffer` where there is no
 /// such coffer.

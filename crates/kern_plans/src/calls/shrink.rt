@@ -8,9 +8,10 @@ ghost use Rattle.kern_model.specs.KernelView.{pages_of};
 
 use crate::asked::Asked;
 use crate::checks::{check_guard, check_pages, control_and_root, refuse_where};
-use crate::giving::{NOBODY, pass_pages};
+use crate::giving::pass_pages;
 use crate::linking::Guard;
 use crate::planned::Planned;
+use kern_model::NOBODY;
 use std::alloc::{AllocError, Global};
 use tr_types::{KernAnswer, Pages};
 
