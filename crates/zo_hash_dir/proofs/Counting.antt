@@ -1,13 +1,13 @@
 -- A count of names, step by step.
-use Rattle.std.proofs.Common.{◌≡◌, ◌≢◌, ◌⊎◌, ℕ, zero, suc, ◌+◌, ◌-◌, ◌*◌, ◌<◌, ◌≤◌, false, List, [], ◌∷◌, ◌++◌, length, map, Contains, ap, sym, refl, subst, ◌∙◌, inl, inr, arith}
+use Rattle.std.proofs.Common.{◌≡◌, ◌≢◌, ◌⊎◌, ℕ, zero, suc, ◌+◌, ◌-◌, ◌*◌, ◌<◌, ◌≤◌, false, List, [], ◌∷◌, ◌++◌, length, Contains, ap, sym, refl, subst, ◌∙◌, inl, inr, arith}
 use Rattle.std.specs.Prelude.{nat_eq}
 use Rattle.std.specs.List.{IsDistinct, AllByRecursion}
 use Rattle.std.proofs.lemmas.Bool.{cases_lt, ne_eqb}
 use Rattle.std.proofs.lemmas.List.{append_assoc, length-append}
 use Rattle.std.proofs.lemmas.List.Elements.{Contains-append_cases}
 use Rattle.std.proofs.lemmas.Map.Keys.{IsDistinct-head, IsDistinct-tail, IsDistinct-cons}
-use Rattle.zo_layout.specs.Layout.{word_of, bucket_head, bucket_of, next_entry}
-use Rattle.zo_model.specs.Directory.{Leads, IsEntry, IsBucket, name_at}
+use Rattle.zo_layout.specs.Layout.{word_of, bucket_head, next_entry}
+use Rattle.zo_model.specs.Directory.{Leads, IsEntry, name_at}
 use Rattle.zo_hash_dir.specs.Addresses.{IsEntryAddress}
 use Rattle.zo_hash_dir.specs.Scene.{Scene, IsPageOf, IsShown, IsRead, OfEntry}
 use Rattle.tr_types.specs.declared.action.Answer.{Answer}
@@ -17,7 +17,7 @@ use Rattle.zo_hash_dir.specs.declared.list.Asked.{Asked}
 use Rattle.zo_hash_dir.specs.declared.list.Asked.TheVariants as list
 use Rattle.zo_hash_dir.specs.declared.list.ListStep.{ListStep}
 use Rattle.zo_hash_dir.specs.declared.list.ListStep.TheVariants.{Load, Counted, Damaged}
-use Rattle.zo_hash_dir.specs.Looking.{link_behind, LeadsAstray}
+use Rattle.zo_hash_dir.specs.Looking.{LeadsAstray}
 use Rattle.zo_hash_dir.specs.Counting.{At, at_of, asked_word, names_below, HasNames, AreChains, Counts, CountsAll, ListKnowsAt, ListGives, IsListDamageAt, TellsListDamage}
 use Rattle.zo_hash_dir.proofs.Members.{contains_here, contains_there}
 use Rattle.zo_hash_dir.proofs.Chains.{leads_behind, link_behind_push}

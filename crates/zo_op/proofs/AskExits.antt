@@ -6,14 +6,14 @@ use Rattle.tr_types.specs.declared.action.Answer.{Answer}
 use Rattle.tr_types.specs.declared.action.Answer.TheVariants.{Word as WordIs, Done, Fault, Kern}
 use Rattle.tr_types.specs.declared.command.Command.{Command}
 use Rattle.tr_types.specs.declared.command.Command.TheVariants.{Create, Stat}
-use Rattle.tr_types.specs.declared.command.Reply.TheVariants.{Made, NoSpace, Denied}
+use Rattle.tr_types.specs.declared.command.Reply.TheVariants.{Made, NoSpace}
 use Rattle.tr_types.specs.declared.entry.Mark.TheVariants.{Plain, Commit}
 use Rattle.tr_types.specs.declared.kernel_call.Kcall.TheVariants.{Enlarge}
 use Rattle.tr_types.specs.declared.kernel_call.KernAnswer.TheVariants as kern
 use Rattle.tr_types.specs.declared.kernel_call.Mapped.{Mapped}
 use Rattle.tr_types.specs.declared.permission.Cred.{Cred}
 use Rattle.zo_model.specs.Alone.{root_coffer, root_cred}
-use Rattle.zo_model.specs.Answers.{Answered, answer, consulted, told, Changes}
+use Rattle.zo_model.specs.Answers.{Answered, answer, consulted, Changes}
 use Rattle.zo_model.specs.CofferWords.{IsDir}
 use Rattle.zo_model.specs.Coffers.{Coffer}
 use Rattle.zo_model.specs.Commands.{IsCommand}

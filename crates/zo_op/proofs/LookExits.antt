@@ -1,5 +1,5 @@
 -- What a call gives while it looks for its name, and where it has found it or not.
-use Rattle.std.proofs.Common.{◌≡◌, ℕ, ◌+◌, ◌*◌, ◌^◌, ◌<◌, List, [], ◌∷◌, length, drop, codes, true, Some, None, refl, sym, ap, subst, ◌∙◌, arith, inl, inr, eq-eqb}
+use Rattle.std.proofs.Common.{◌≡◌, ℕ, ◌+◌, ◌*◌, ◌<◌, List, [], ◌∷◌, length, drop, codes, true, Some, None, refl, sym, ap, subst, ◌∙◌, arith, inl, inr, eq-eqb}
 use Rattle.zo_layout.specs.Layout.{page_at, page_kind, file_map, pool_head}
 use Rattle.tr_types.specs.declared.action.Action.TheVariants.{Load}
 use Rattle.tr_types.specs.declared.action.Answer.{Answer}

@@ -10,7 +10,6 @@ use Rattle.tr_types.specs.declared.command.Reply.TheVariants.{Made}
 use Rattle.tr_types.specs.declared.entry.Mark.{Mark}
 use Rattle.tr_types.specs.declared.entry.Mark.TheVariants.{Plain, Commit}
 use Rattle.tr_types.specs.declared.kernel_call.Mapped.{Mapped}
-use Rattle.zo_model.specs.Answers.{told}
 use Rattle.zo_model.specs.Legal.{Verdict, HasCause, MayReply, MayTell}
 use Rattle.zo_model.specs.Seats.{Told, is_commit}
 use Rattle.zo_model.specs.Steps.{Scene, Leaves, Goes, ActGives, OverGives, MayMark}

@@ -1,4 +1,4 @@
-use Rattle.std.proofs.Common.{◌≡◌, ℕ, ◌*◌, sym, subst}
+use Rattle.std.proofs.Common.{ℕ, ◌*◌, sym, subst}
 use Rattle.zo_layout.specs.Layout.{bucket_head}
 use Rattle.zo_hash_dir.specs.Counting.{Counts}
 use Rattle.zo_hash_dir.proofs.Counting.{counts_begin}

@@ -1,10 +1,6 @@
-use Rattle.std.proofs.Common.{◌≡◌, ◌≢◌, ℕ, suc, ◌+◌, ◌-◌, ◌*◌, ◌<◌, ◌≤◌, ap, sym, refl, subst, ◌∙◌, arith}
-use Rattle.tr_types.specs.declared.action.Answer.TheVariants.{Word}
-use Rattle.zo_layout.specs.Layout.{next_entry, bucket_head}
+use Rattle.std.proofs.Common.{refl}
 use Rattle.zo_hash_dir.specs.declared.list.Asked.TheVariants as list
-use Rattle.zo_hash_dir.specs.Scene.{IsRead}
-use Rattle.zo_hash_dir.specs.Looking.{LeadsAstray}
-use Rattle.zo_hash_dir.specs.Counting.{At, at_of, asked_word, names_below, Counts, TellsListDamage}
+use Rattle.zo_hash_dir.specs.Counting.{at_of}
 use Rattle.zo_hash_dir.proofs.Walking.{head_read}
 use Rattle.zo_hash_dir.proofs.Counting.{gives_load, knows_asked}
 use Rattle.zo_hash_dir.proofs.list.ListRun.next.Goals as goal
