@@ -14,7 +14,7 @@ use Rattle.kern_model.specs.Rights.{closed_pkru}
 use Rattle.kern_model.specs.KernelCalls.{inner_of}
 use Rattle.kern_model.proofs.StepLemmas.{length_run, changed_by}
 use Rattle.bus_model.specs.Confined.{IsConfined}
-use Rattle.bus_model.specs.Shown.{shown}
+use Rattle.tr_types.specs.Shown.{shown}
 use Rattle.bus_model.proofs.Flushes.{length_flush, length_fence, flush_short, fence_short}
 use Rattle.tr_types.specs.declared.action.Action.{Action}
 use Rattle.tr_types.specs.declared.action.Action.TheVariants.{Load, Store, Cas, Flush, Fence, Pkru, Kernel}

@@ -1,5 +1,3 @@
--- what the text of a kernel's answer shows
-pub mod Shown
 -- the machine: what it answers, and what an entry leaves
 pub mod Machine
 -- by what a word changes

@@ -8,7 +8,7 @@ use Rattle.kern_model.specs.NewImage.{new_image}
 use Rattle.kern_model.specs.Kernel.{kernel_owner}
 use Rattle.kern_model.specs.KernelCalls.{Callers, answer_of, words_after, holders_after, located, IsCall}
 use Rattle.kern_model.specs.Rights.{process_of, load_fault, store_fault, closed_pkru}
-use Rattle.bus_model.specs.Shown.{shown}
+use Rattle.tr_types.specs.Shown.{shown}
 use Rattle.tr_types.specs.declared.action.Action.{Action}
 use Rattle.tr_types.specs.declared.action.Action.TheVariants.{Load, Store, Cas, Flush, Fence, Pkru, Kernel}
 use Rattle.tr_types.specs.declared.action.Answer.{Answer}

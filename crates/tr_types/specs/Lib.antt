@@ -6,3 +6,5 @@ pub mod Traces
 pub mod Paths
 -- what a permission gives
 pub mod Permission
+-- what the text of a kernel's answer shows
+pub mod Shown
