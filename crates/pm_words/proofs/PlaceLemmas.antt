@@ -1,5 +1,5 @@
 -- Lines, and the places of their words, that show the same, that were flushed and that were fenced.
-use Rattle.std.proofs.Common.{◌≡◌, ◌≢◌, ℕ, ◌+◌, ◌-◌, ◌/◌, ◌<◌, ◌≤◌, List, [], ◌∷◌, ◌++◌, drop, length, length-append, length-drop, sym, ap, subst, ◌∙◌, inl, inr, ◌⊎◌, arith, slice_index_or, Contains, Result, Ok, Err, OnOk, OnErr}
+use Rattle.std.proofs.Common.{◌≡◌, ◌≢◌, ℕ, ◌+◌, ◌-◌, ◌/◌, ◌<◌, ◌≤◌, Bool, true, false, List, [], ◌∷◌, ◌++◌, drop, length, length-append, length-drop, refl, sym, ap, subst, ◌∙◌, inl, inr, ◌⊎◌, arith, slice_index_or, Contains, Result, Ok, Err, OnOk, OnErr}
 use Rattle.std.proofs.lemmas.Bool.{cases_eq, cases_lt}
 use Rattle.std.proofs.lemmas.List.{get_or_default, drop_all}
 use Rattle.pm_words.specs.declared.pending.Older.{Older}
@@ -115,6 +115,12 @@ line_kept count line place value old new is at kept =
       places = subst (AreOfLine line) (sym kept.older) (of_line_push line old.older entry is.places at);
     }
 
+-- a line with one older value more, where there was room for it
+pub line_kept_or_same : (fits : Bool) (count line place value : ℕ) (old new : Held) → IsLine count line old → place / 8 ≡ line → (fits ≡ true → IsKept place value old new)
+    → (fits ≡ false → new ≡ old) → IsLine count line new
+line_kept_or_same true count line place value old new is at kept same = line_kept count line place value old new is at (kept refl)
+line_kept_or_same false count line place value old new is at kept same = subst (IsLine count line) (sym (same refl)) is
+
 -- a line that is pending after a fence
 pub line_fenced : (count line thread : ℕ) (old new : Held) → IsLine count line old → look old.marks thread < length old.older → IsFenced thread old new → IsLine count line new
 line_fenced count line thread old new is less f = record {
@@ -153,40 +159,40 @@ unmarked_fenced thread a b same none = record {
   marks = λ t. let here = ap (λ (h : Held). look h.marks t) same in omega (arith, none, here);
 }
 
--- a line once a fence has come to the first lines of a list: it was fenced, or is as it was and none of these
+-- a line once a fence has come to the lines of a list from `left` on: it was fenced, or is as it was and none of these
 abbrev pub IsSoFar : ℕ → List ℕ → ℕ → List (ℕ × Held) → List (ℕ × Held) → ℕ → Type 0
-IsSoFar thread lines count old now l = IsFenced thread (held_at old l) (held_at now l) ⊎ ((held_at now l ≡ held_at old l) × ((j : ℕ) → j < count → slice_index_or lines j 0 ≢ l))
+IsSoFar thread lines left old now l =
+    IsFenced thread (held_at old l) (held_at now l) ⊎ ((held_at now l ≡ held_at old l) × ((j : ℕ) → left ≤ j → j < length lines → slice_index_or lines j 0 ≢ l))
 
 -- one line more
-module _ (thread : ℕ) (lines : List ℕ) (count line : ℕ) (old now new : List (ℕ × Held)) (is : line ≡ slice_index_or lines count 0)
+module _ (thread : ℕ) (lines : List ℕ) (left line : ℕ) (old now new : List (ℕ × Held)) (is : line ≡ slice_index_or lines left 0)
     (fenced : IsFenced thread (held_at now line) (held_at new line))
     (others : (l : ℕ) → l ≢ line → held_at new l ≡ held_at now l) where
-  step : (l : ℕ) → IsSoFar thread lines count old now l → (l ≡ line) ⊎ (l ≡ line → ⊥) → IsSoFar thread lines (count + 1) old new l
-  step l so (inl e) = subst (λ (j : ℕ). IsSoFar thread lines (count + 1) old new j) (sym e) (inl (here (subst (λ (j : ℕ). IsSoFar thread lines count old now j) e so)))
+  step : (l : ℕ) → IsSoFar thread lines (left + 1) old now l → (l ≡ line) ⊎ (l ≡ line → ⊥) → IsSoFar thread lines left old new l
+  step l so (inl e) = subst (λ (j : ℕ). IsSoFar thread lines left old new j) (sym e) (inl (here (subst (λ (j : ℕ). IsSoFar thread lines (left + 1) old now j) e so)))
     where
-      here : IsSoFar thread lines count old now line → IsFenced thread (held_at old line) (held_at new line)
+      here : IsSoFar thread lines (left + 1) old now line → IsFenced thread (held_at old line) (held_at new line)
       here (inl done) = fenced_twice thread (held_at old line) (held_at now line) (held_at new line) done fenced
       here (inr (same, none)) = same_fenced thread (held_at old line) (held_at now line) (held_at new line) same fenced
   step l (inl done) (inr ne) = inl (fenced_same thread (held_at old l) (held_at now l) (held_at new l) done (others l ne))
-  step l (inr (same, none)) (inr ne) = inr (others l ne ∙ same, λ j lt. at_line j lt (cases_lt j count))
+  step l (inr (same, none)) (inr ne) = inr (others l ne ∙ same, λ j from lt. at_line j from lt (cases_lt left j))
     where
-      at_line : (j : ℕ) → j < count + 1 → (j < count) ⊎ (count ≤ j) → slice_index_or lines j 0 ≢ l
-      at_line j lt (inl less) = none j less
-      at_line j lt (inr le) = λ e. let at : j ≡ count = omega arith in ne (sym (is ∙ ap (λ (i : ℕ). slice_index_or lines i 0) (sym at) ∙ e))
+      at_line : (j : ℕ) → left ≤ j → j < length lines → (left < j) ⊎ (j ≤ left) → slice_index_or lines j 0 ≢ l
+      at_line j from lt (inl less) = none j (omega arith) lt
+      at_line j from lt (inr le) = λ e. let at : j ≡ left = omega arith in ne (sym (is ∙ ap (λ (i : ℕ). slice_index_or lines i 0) (sym at) ∙ e))
 
-  pub so_far_more : (l : ℕ) → IsSoFar thread lines count old now l → IsSoFar thread lines (count + 1) old new l
+  pub so_far_more : (l : ℕ) → IsSoFar thread lines (left + 1) old now l → IsSoFar thread lines left old new l
   so_far_more l so = step l so (cases_eq l line)
 
 -- all lines of a list that has each line where the thread has a mark
-pub so_far_all : (thread : ℕ) (lines : List ℕ) (count : ℕ) (old now : List (ℕ × Held)) → length lines ≤ count
-    → ((l : ℕ) → 0 < look (held_at old l).marks thread → Contains lines l) → (l : ℕ) → IsSoFar thread lines count old now l → IsFenced thread (held_at old l) (held_at now l)
-so_far_all thread lines count old now all noted l (inl done) = done
-so_far_all thread lines count old now all noted l (inr (same, none)) =
+pub so_far_all : (thread : ℕ) (lines : List ℕ) (old now : List (ℕ × Held)) → ((l : ℕ) → 0 < look (held_at old l).marks thread → Contains lines l) → (l : ℕ) → IsSoFar thread lines 0 old now l → IsFenced thread (held_at old l) (held_at now l)
+so_far_all thread lines old now noted l (inl done) = done
+so_far_all thread lines old now noted l (inr (same, none)) =
     unmarked_fenced thread (held_at old l) (held_at now l) same (zero_or (cases_lt 0 (look (held_at old l).marks thread)))
   where
     zero_or : (0 < look (held_at old l).marks thread) ⊎ (look (held_at old l).marks thread ≤ 0) → look (held_at old l).marks thread ≡ 0
     zero_or (inl some) = found (noted l some)
       where
         found : Contains lines l → look (held_at old l).marks thread ≡ 0
-        found (j, lt, e) = absurd (none j (omega arith) (get_or_default lines j 0 l lt ∙ e))
+        found (j, lt, e) = absurd (none j (omega arith) lt (get_or_default lines j 0 l lt ∙ e))
     zero_or (inr le) = omega arith

@@ -1,21 +1,24 @@
 //! What a fence leaves of the pending words.
 
-ghost use Rattle.std.specs.Prelude.{◌≡◌, ◌≢◌, ℕ, ◌+◌, ◌*◌, ◌<◌, ◌≤◌, length, true, false, nat_eq, IfSome, Contains};
+ghost use Rattle.std.specs.Prelude.{◌≡◌, ◌≢◌, ℕ, ◌+◌, ◌*◌, ◌<◌, ◌≤◌, length, nat_eq, slice_get, Some, None, IfSome, IsSome, Contains};
 ghost use Rattle.indexmap.specs.IndexMap.{get};
-ghost use Rattle.pm_words.specs.View.{held_at, no_held, look, IsFenced, ArePending};
+ghost use Rattle.pm_words.specs.View.{Held, held_at, no_held, look, IsFenced, ArePending};
 
 use crate::marked::Lines;
 use crate::pending::Line;
 use indexmap::IndexMap;
 
-// Whether a thread's fence leaves no older value of a line.
-fn is_ended(pending: &IndexMap<usize, Line>, thread: u16, line: usize) -> bool
-    ensures ends { result ≡ true → IsFenced thread (held_at pending.now.entries line) no_held }
-    ensures lasts { result ≡ false → IfSome (get nat_eq pending.now line) (λ h. look h.marks thread < length h.older) }
+// Where the entry of a line is, if a thread's fence leaves no older value of it.
+fn index_ended(pending: &IndexMap<usize, Line>, thread: u16, line: usize) -> Option<usize>
+    ensures there { IfSome result (λ index. (h : Held) × (slice_get pending.now.entries index ≡ Some (line, h))) }
+    ensures ends { IsSome result → IsFenced thread (held_at pending.now.entries line) no_held }
+    ensures lasts { result ≡ None → IfSome (get nat_eq pending.now line) (λ h. look h.marks thread < length h.older) }
 {
-    match pending.get(&line) {
-        Some(words) => words.ends_by(thread),
-        None => false,
+    let (index, _, words) = pending.get_full(&line)?;
+    if words.ends_by(thread) {
+        Some(index)
+    } else {
+        None
     }
 }
 
@@ -38,10 +41,11 @@ fn fence_line(pending: &mut IndexMap<usize, Line>, thread: u16, line: usize)
     ensures others { (l : ℕ) → l ≢ line → held_at pending.new.entries l ≡ held_at pending.old.entries l }
     ensures pending { (count : ℕ) → ArePending count pending.old.entries → ArePending count pending.new.entries }
 {
-    if is_ended(pending, thread, line) {
-        pending.swap_remove(&line);
-    } else {
-        forget_line(pending, thread, line);
+    match index_ended(pending, thread, line) {
+        Some(index) => {
+            pending.swap_remove_index(index);
+        }
+        None => forget_line(pending, thread, line),
     }
 }
 
@@ -50,7 +54,8 @@ pub fn fence_lines(pending: &mut IndexMap<usize, Line>, thread: u16, lines: &Lin
     ensures fenced { ((l : ℕ) → 0 < look (held_at pending.old.entries l).marks thread → Contains lines.now l) → (l : ℕ) → IsFenced thread (held_at pending.old.entries l) (held_at pending.new.entries l) }
     ensures pending { (count : ℕ) → ArePending count pending.old.entries → ArePending count pending.new.entries }
 {
-    for i in 0..lines.len() {
+    // The line flushed last mostly came last too, and leaves no gap that another entry has to fill.
+    for i in (0..lines.len()).rev() {
         fence_line(pending, thread, lines.line(i));
     }
 }

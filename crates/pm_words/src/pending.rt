@@ -54,10 +54,10 @@ impl Line {
     pub fn with_value(alloc: Global, place: usize, value: u64) -> Line
         ensures kept { IsKept place value no_held result }
     {
-        let mut older = SmallVec::new(alloc);
-        older.push_reserved(Older { place, value });
+        let mut values = SmallVec::new(alloc);
+        values.push_reserved(Older { place, value });
         Line {
-            older,
+            older: values,
             marks: SmallVec::new(alloc),
         }
     }
@@ -70,6 +70,19 @@ impl Line {
     {
         self.older.push(Older { place, value })?;
         Ok(())
+    }
+
+    /// Adds a value after the others where there is room for it. Answers whether there is; else nothing changes.
+    pub fn push_in_room(&mut self, place: usize, value: u64) -> bool
+        ensures pushed { result ≡ true → IsKept place value self.old self.new }
+        ensures full { result ≡ false → self.new ≡ self.old }
+        ensures bound { (t : ℕ) → look self.old.marks t ≤ length self.old.older }
+    {
+        let has_room = self.older.len() < self.older.capacity();
+        if has_room {
+            self.older.push_reserved(Older { place, value });
+        }
+        has_room
     }
 
     /// The values before the present ones.
@@ -177,7 +190,8 @@ fn lower(marks: &mut [Mark], gone: usize)
 }
 
 /// Keeps a value of the word at `place` that a store is about to replace. An error changes no word.
-/// The line that came last is tried first, since most stores go to the line of the one before.
+/// The line that came last is tried first, since most stores go to the line of the one before, and what
+/// that takes is kept short.
 pub fn keep(
     pending: &mut IndexMap<usize, Line>,
     alloc: Global,
@@ -190,21 +204,47 @@ pub fn keep(
     ensures bound { (t : ℕ) → look (held_at pending.old.entries (place / 8)).marks t ≤ length (held_at pending.old.entries (place / 8)).older }
     ensures pending { (count : ℕ) → 8 * (place / 8) + 8 ≤ count → ArePending count pending.old.entries → ArePending count pending.new.entries }
 {
-    match index_of(pending, place / LINE_WORDS) {
-        Some(index) => keep_at(pending, index, place, value),
-        None => open_line(pending, alloc, place, value),
+    if keep_in_last(pending, place, value) {
+        Ok(())
+    } else {
+        keep_found(pending, alloc, place, value)
     }
 }
 
-// Where a line's entry is.
-fn index_of(pending: &IndexMap<usize, Line>, line: usize) -> Option<usize>
-    ensures some { IfSome result (λ index. (h : Held) × (slice_get pending.now.entries index ≡ Some (line, h))) }
-    ensures none { result ≡ None → get nat_eq pending.now line ≡ None }
+// Keeps a value of a word where the entry of its line is the last one and has room. Answers whether it has.
+fn keep_in_last(pending: &mut IndexMap<usize, Line>, place: usize, value: u64) -> bool
+    ensures kept { result ≡ true → IsKept place value (held_at pending.old.entries (place / 8)) (held_at pending.new.entries (place / 8)) }
+    ensures same { result ≡ false → (l : ℕ) → held_at pending.new.entries l ≡ held_at pending.old.entries l }
+    ensures others { (l : ℕ) → l ≢ place / 8 → held_at pending.new.entries l ≡ held_at pending.old.entries l }
+    ensures bound { result ≡ true → (t : ℕ) → look (held_at pending.old.entries (place / 8)).marks t ≤ length (held_at pending.old.entries (place / 8)).older }
+    ensures pending { (count : ℕ) → ArePending count pending.old.entries → ArePending count pending.new.entries }
 {
-    if is_last(pending, line) {
-        Some(pending.len() - 1)
-    } else {
-        index_found(pending, line)
+    if !is_last(pending, place / LINE_WORDS) {
+        return false;
+    }
+    match pending.last_mut() {
+        Some(words) => words.push_in_room(place, value),
+        None => false,
+    }
+}
+
+// Keeps a value of a word, where its line's entry may be anywhere, or not be there yet.
+#[inline(never)]
+fn keep_found(
+    pending: &mut IndexMap<usize, Line>,
+    alloc: Global,
+    place: usize,
+    value: u64,
+) -> Result<(), AllocError>
+    ensures ok { OnOk result (IsKept place value (held_at pending.old.entries (place / 8)) (held_at pending.new.entries (place / 8))) }
+    ensures err { OnErr result (held_at pending.new.entries (place / 8) ≡ held_at pending.old.entries (place / 8)) }
+    ensures others { (l : ℕ) → l ≢ place / 8 → held_at pending.new.entries l ≡ held_at pending.old.entries l }
+    ensures bound { (t : ℕ) → look (held_at pending.old.entries (place / 8)).marks t ≤ length (held_at pending.old.entries (place / 8)).older }
+    ensures pending { (count : ℕ) → 8 * (place / 8) + 8 ≤ count → ArePending count pending.old.entries → ArePending count pending.new.entries }
+{
+    match index_found(pending, place / LINE_WORDS) {
+        Some(index) => keep_at(pending, index, place, value),
+        None => open_line(pending, alloc, place, value),
     }
 }
 

@@ -12,6 +12,6 @@ returns-in-Some-clause-words c =
 pub returns-in-None-clause-words : goal.returns-in-None-clause-words
 returns-in-None-clause-words c =
     let es = c.self.inside.pending.entries in
-    fence_is _ _ _ _ _ c.self.view_is (λ k. fenced_at c.args.thread es es k (so_far_all c.args.thread [] 0 es es (omega arith)
+    fence_is _ _ _ _ _ c.self.view_is (λ k. fenced_at c.args.thread es es k (so_far_all c.args.thread [] es es
     (λ l some. subst (λ (o : Option (List ℕ)). Contains (unwrap_or o []) l) (sym c.in-None.ensures.value) (c.self.invariant.noted c.args.thread l some))
-    (k / 8) (inr (refl, λ j lt. absurd (omega arith)))))
+    (k / 8) (inr (refl, λ j from lt. absurd (omega arith)))))
