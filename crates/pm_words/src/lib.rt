@@ -20,7 +20,7 @@ mod snapshot;
 pub use choice::Choice;
 pub use fnv::fnv64;
 pub use laws::{crash_law, history_law};
-pub use memory::Words;
+pub use memory::{LINE_BYTES, Words};
 pub use snapshot::Image;
 
 /// Memory for the machine's own tables ran out.

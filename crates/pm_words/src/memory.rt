@@ -18,7 +18,8 @@ const WORD_BYTES: u64 = 8;
 
 const PAGE_WORDS: usize = 512;
 
-const LINE_BYTES: u64 = 64;
+/// Bytes of a line, of which a flush marks the words.
+pub const LINE_BYTES: u64 = 64;
 
 /// The words of a running machine, in 64 to 16,384 pages of 512 words.
 ///
