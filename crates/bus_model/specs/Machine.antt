@@ -16,6 +16,7 @@ use Rattle.tr_types.specs.declared.action.Answer.TheVariants.{Word as WordIs, Do
 use Rattle.tr_types.specs.declared.action.FaultKind.{FaultKind}
 use Rattle.tr_types.specs.declared.action.FaultKind.TheVariants.{NotMapped}
 use Rattle.tr_types.specs.declared.kernel_call.Kcall.{Kcall}
+use Rattle.tr_types.specs.declared.limits.TheConstants.{PROCESSES, THREADS}
 use Rattle.tr_types.specs.declared.kernel_call.Holder.{Holder}
 use Rattle.tr_types.specs.declared.permission.Cred.{Cred}
 use Rattle.tr_types.specs.declared.entry.Entry.{Entry}
@@ -44,7 +45,7 @@ pub record Machine : Type 0 where
 
 -- the registers before any thread has opened a key
 unfoldable pub closed_pkrus : List ℕ
-closed_pkrus = map (λ _. closed_pkru) (range_with_len 0 256)
+closed_pkrus = map (λ _. closed_pkru) (range_with_len 0 THREADS)
 
 -- the machine as it opens over an image, all of whose words are durable
 abbrev pub bus_over : List ℕ → Bus
@@ -180,8 +181,8 @@ ThreadLives m thread = ThreadWasStarted m.bus thread × ((process : ℕ) → pro
 
 -- each thread that was started has a register
 pub record HasRegisters (bus : Bus) : Type 0 where
-  pub count : length bus.pkrus ≡ 256
-  pub small : (t : ℕ) → ThreadWasStarted bus t → t < 256
+  pub count : length bus.pkrus ≡ THREADS
+  pub small : (t : ℕ) → ThreadWasStarted bus t → t < THREADS
 
 -- the tick isn't below that of an earlier entry, and isn't still to come
 abbrev pub IsDue : Machine → ℕ → Type 0
@@ -192,8 +193,8 @@ abbrev pub Fits : Machine → Entry → Type 0
 -- the first entry alone, over the new image of that many pages
 Fits m (entry.Mkfs pages) = (m.begun ≡ false) × (present_values m.bus.words ≡ new_image pages)
 -- no number is started twice
-Fits m (entry.Process process cred) = (process < 64) × (ProcessWasStarted m.bus process → ⊥)
-Fits m (entry.Thread thread process) = (thread < 256) × (ThreadWasStarted m.bus thread → ⊥) × ProcessLives m process
+Fits m (entry.Process process cred) = (process < PROCESSES) × (ProcessWasStarted m.bus process → ⊥)
+Fits m (entry.Thread thread process) = (thread < THREADS) × (ThreadWasStarted m.bus thread → ⊥) × ProcessLives m process
 Fits m (entry.Call thread command) = ThreadLives m thread
 Fits m (entry.Act thread now mark action answer) = ThreadLives m thread × IsDue m now × HasText m.bus thread now action answer
 Fits m (entry.Reply thread reply) = ThreadLives m thread

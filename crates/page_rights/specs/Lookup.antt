@@ -3,6 +3,7 @@ use Rattle.std.specs.Prelude.{ℕ, ◌≡◌, ◌≢◌, ◌+◌, ◌*◌, ◌<�
 use Rattle.std.specs.List.{range_with_len}
 use Rattle.tr_types.specs.declared.action.FaultKind.{FaultKind}
 use Rattle.tr_types.specs.declared.kernel_call.Holder.{Holder}
+use Rattle.tr_types.specs.declared.limits.TheConstants.{PROCESSES, THREADS}
 use Rattle.kern_model.specs.Rights.{process_of, is_same, allows_writing, load_fault_by, store_fault_by, first_of, or_key, key_in, is_writable, IsLeastOf}
 use Rattle.page_rights.specs.declared.mapping.Mapping.{Mapping}
 use Rattle.page_rights.specs.Tables.{IsRow, HasOneRow}
@@ -79,12 +80,12 @@ IsLeast threads least = MatchOption least (threads ≡ []) (IsLeastOf threads)
 
 -- What ties the parts of the tables together.
 pub record TablesAgree (threads : List (ℕ × ℕ)) (processes : List (Option ℕ)) (holders : List Holder) (mappings : List (Option Mapping)) : Type 0 where
-  pub numbers : length processes ≡ 256
+  pub numbers : length processes ≡ THREADS
   pub starts : (thread : ℕ) → process_at processes thread ≡ process_of threads thread
-  pub small : (thread process : ℕ) → process_at processes thread ≡ Some process → process < 64
+  pub small : (thread process : ℕ) → process_at processes thread ≡ Some process → process < PROCESSES
   pub rows : All IsRow holders
   pub row_threads : All (λ h. process_at processes h.thread ≢ None) holders
   pub own : (process : ℕ) (h g : Holder) → Contains holders h → Contains holders g → is_in processes h.thread process ≡ true → is_in processes g.thread process ≡ true → (h.id ≡ g.id) ↔ (h.key ≡ g.key)
   pub one_row : (thread id : ℕ) → HasOneRow holders thread id
   pub places : length mappings ≡ 16448
-  pub kept : (process id : ℕ) → process < 64 → id ≤ 256 → mapping_at mappings process id ≡ mapping_of processes holders process id
+  pub kept : (process id : ℕ) → process < PROCESSES → id ≤ 256 → mapping_at mappings process id ≡ mapping_of processes holders process id

@@ -6,9 +6,7 @@ ghost use Rattle.page_rights.specs.Lookup.{place_of as spec_place, mapping_of, m
 
 use crate::rows::mapping_of;
 use std::alloc::{AllocError, Global};
-use tr_types::Holder;
-
-const PROCESSES: u8 = 64;
+use tr_types::{Holder, PROCESSES};
 
 /// Coffers and 0, which is none.
 const COFFERS: u16 = 257;

@@ -14,7 +14,7 @@ use std::marker::Model;
 use thiserror::Error;
 use tr_types::{FaultKind, Holder, Right};
 
-const THREADS: usize = 256;
+const THREADS: usize = tr_types::THREADS as usize;
 
 /// 64 processes with 257 coffers each: 1 to 256, and 0 for none.
 const PLACES: usize = 16_448;
