@@ -11,15 +11,13 @@ ghost use Rattle.kern_commit.specs.Pages.{page_zeros, page_flushes};
 
 use kern_journal::{JournalFault, apply, journal_events, make, make_all};
 use kern_model::Inner;
-use pm_words::{NoMemory, Words};
+use pm_words::{LINE_BYTES, NoMemory, Words};
 use std::alloc::{AllocError, Global};
 use std::collections::BTreeMap;
 use zo_layout::{PAGE_WORDS, page_at, word_of};
 
 /// Lines of a page.
 const PAGE_LINES: u64 = 64;
-
-const LINE_BYTES: u64 = 64;
 
 /// Zeroes the pages, in their order, and stores the pairs (address, word) by the journal, in order of
 /// address; of two for one word the later one stands alone. All is durable at the end. `NoMemory`

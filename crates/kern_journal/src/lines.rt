@@ -2,9 +2,8 @@
 ghost use Rattle.std.specs.Prelude.{◌≡◌, ◌<◌, IfOk, OnOk};
 ghost use Rattle.kern_model.specs.Inner.{line_of, with_line, lines_of, IsAscending};
 
+use pm_words::LINE_BYTES;
 use std::alloc::{AllocError, Global};
-
-const LINE_BYTES: u64 = 64;
 
 /// The lines that the pairs' addresses are in, each once, in order of address.
 pub fn lines_of(alloc: Global, pairs: &[(u64, u64)]) -> Result<Vec<u64>, AllocError>
