@@ -1,17 +1,11 @@
--- What the entries of a trace print in brief. Numbers are decimal.
-use Rattle.std.specs.Prelude.{ℕ, ◌+◌, ◌/◌, ◌%◌, List, [], ◌∷◌, ◌++◌, length, flat_map, if◌then◌else◌, ◌==◌, nat_lt, codes}
+-- What the entries of a trace print: in full, and in brief.
+use Rattle.std.specs.Prelude.{ℕ, ⊤, List, [], ◌∷◌, ◌++◌, flat_map, codes}
 use Rattle.std.specs.Fmt.{decimal}
-use Rattle.tr_types.specs.declared.action.Answer.TheVariants as answer
-use Rattle.tr_types.specs.declared.action.FaultKind.{FaultKind}
-use Rattle.tr_types.specs.declared.action.FaultKind.TheVariants.{NotMapped, NotWritable, KeyDenied}
-use Rattle.tr_types.specs.declared.command.Kind.{Kind}
-use Rattle.tr_types.specs.declared.command.Kind.TheVariants.{File, Dir}
-use Rattle.tr_types.specs.declared.command.Reply.{Reply}
-use Rattle.tr_types.specs.declared.command.Reply.TheVariants as reply
+use Rattle.tr_types.specs.declared.entry.CofferRow.{CofferRow}
 use Rattle.tr_types.specs.declared.entry.Entry.{Entry}
 use Rattle.tr_types.specs.declared.entry.Entry.TheVariants as entry
-use Rattle.tr_types.specs.declared.permission.Right.{Right}
-use Rattle.tr_text.specs.Spelling.{thread_name, mode_text}
+use Rattle.tr_text.specs.Spelling.{thread_name}
+use Rattle.tr_text.specs.Words.{reply_words, answer_words, pick_words, row_words, entry_words}
 
 -- a space, and then the text
 abbrev pub then_text : List ℕ → List ℕ
@@ -21,76 +15,53 @@ then_text text = 32 ∷ text
 abbrev pub then_number : ℕ → List ℕ
 then_number n = then_text (decimal n)
 
-abbrev pub kind_text : Kind → List ℕ
-kind_text File = codes "file"
-kind_text Dir = codes "dir"
+-- each word after a space
+abbrev pub then_words : List (List ℕ) → List ℕ
+then_words words = flat_map then_text words
 
-abbrev pub right_text : Right → List ℕ
-right_text right = if right.0 == 1 then codes "read" else (if right.0 == 2 then codes "write" else codes "own")
+-- a line of words with one space between them
+abbrev pub line_text : List (List ℕ) → List ℕ
+line_text [] = 10 ∷ []
+line_text (first ∷ words) = first ++ then_words words ++ 10 ∷ []
 
--- a hexadecimal digit in lower case
-abbrev pub hex_digit : ℕ → ℕ
-hex_digit n = if nat_lt n 10 then 48 + n else 87 + n
+-- a line for each coffer
+abbrev pub rows_text : List CofferRow → List ℕ
+rows_text rows = flat_map (λ row. line_text (row_words row)) rows
 
-abbrev pub hex_byte : ℕ → List ℕ
-hex_byte byte = hex_digit (byte / 16) ∷ hex_digit (byte % 16) ∷ []
+-- One entry in full: a line, and behind that of a list of coffers one for each of them.
+abbrev pub full_text : Entry → List ℕ
+full_text (entry.Coffers rows) = line_text (entry_words (entry.Coffers rows)) ++ rows_text rows
+full_text e = line_text (entry_words e)
 
--- two digits a byte, `-` for no bytes
-abbrev pub data_text : List ℕ → List ℕ
-data_text [] = codes "-"
-data_text (byte ∷ bytes) = flat_map hex_byte (byte ∷ bytes)
+-- it tells how an action was answered
+abbrev pub IsAnswered : Entry → Type 0
+IsAnswered (entry.Act thread now mark action answer) = ⊤
+IsAnswered (entry.Stray thread addr word answer) = ⊤
+IsAnswered (entry.Wild thread now action answer) = ⊤
+IsAnswered e = ⊥
 
--- each name after a space
-abbrev pub names_text : List (List ℕ) → List ℕ
-names_text names = flat_map then_text names
+-- a whole trace in full
+abbrev pub full_texts : List Entry → List ℕ
+full_texts trace = flat_map full_text trace
 
-abbrev pub reply_text : Reply → List ℕ
-reply_text reply.Made = codes "made"
-reply_text reply.Gone = codes "gone"
-reply_text (reply.Wrote count) = codes "wrote" ++ then_number count
-reply_text reply.Cut = codes "cut"
-reply_text (reply.Data bytes) = codes "data" ++ then_text (data_text bytes)
-reply_text (reply.Info kind size uid gid mode) = codes "info" ++ then_text (kind_text kind) ++ then_number size ++ then_number uid ++ then_number gid ++ then_text (mode_text mode)
-reply_text (reply.Names names) = codes "names" ++ then_number (length names) ++ names_text names
-reply_text reply.Moded = codes "moded"
-reply_text reply.Moved = codes "moved"
-reply_text (reply.Denied right path) = codes "denied" ++ then_text (right_text right) ++ then_text path
-reply_text reply.NotFound = codes "notfound"
-reply_text reply.NotDir = codes "notdir"
-reply_text reply.Exists = codes "exists"
-reply_text reply.IsDir = codes "isdir"
-reply_text reply.NotEmpty = codes "notempty"
-reply_text (reply.TooBig end) = codes "toobig" ++ then_number end
-reply_text reply.TooLong = codes "toolong"
-reply_text reply.CrossCoffer = codes "crosscoffer"
-reply_text reply.TooMany = codes "toomany"
-reply_text (reply.NoSpace need free) = codes "nospace" ++ then_number need ++ then_number free
-reply_text reply.Quarantined = codes "quarantined"
-reply_text (reply.Busy addr word now) = codes "busy" ++ then_number addr ++ then_number word ++ then_number now
-reply_text (reply.Expired addr word) = codes "expired" ++ then_number addr ++ then_number word
-reply_text reply.NoKey = codes "nokey"
-reply_text (reply.InUse thread) = codes "inuse" ++ then_text (thread_name thread)
-reply_text (reply.Again times) = codes "again" ++ then_number times
-reply_text (reply.Damaged addr) = codes "damaged" ++ then_number addr
-
-abbrev pub fault_text : FaultKind → List ℕ
-fault_text NotMapped = codes "unmapped"
-fault_text NotWritable = codes "readonly"
-fault_text KeyDenied = codes "key"
-
--- the line of a thread's stray store
-abbrev pub stray_text : ℕ → List ℕ → List ℕ
-stray_text thread answer = thread_name thread ++ codes " stray " ++ answer ++ 10 ∷ []
-
--- One entry: a reply is a line of its thread and the reply, a stray store one of its thread and the answer. What starts
--- something, a call and its actions print nothing. A store is done or faults, so that a stray one with another
--- answer, which no machine gives, prints nothing either.
+-- One entry in brief: a reply is a line of its thread and the reply, a stray store or a wild action one of its thread
+-- and the answer, a crash that of its choice, and a list of coffers their lines. What ends a process or a recovery and
+-- the other notes print what they print in full. What starts something, a call and its actions print nothing.
 abbrev pub brief_text : Entry → List ℕ
-brief_text (entry.Reply thread reply) = thread_name thread ++ then_text (reply_text reply) ++ 10 ∷ []
-brief_text (entry.Stray thread addr word answer.Done) = stray_text thread (codes "done")
-brief_text (entry.Stray thread addr word (answer.Fault kind)) = stray_text thread (codes "fault " ++ fault_text kind)
+brief_text (entry.Reply thread reply) = line_text (thread_name thread ∷ reply_words reply)
+brief_text (entry.Stray thread addr word answer) = line_text (thread_name thread ∷ codes "stray" ∷ answer_words answer)
+brief_text (entry.Wild thread now action answer) = line_text (thread_name thread ∷ codes "wild" ∷ answer_words answer)
+brief_text (entry.Corrupt process) = line_text (entry_words (entry.Corrupt process))
+brief_text (entry.Kill process) = line_text (entry_words (entry.Kill process))
+brief_text (entry.Crash pick) = line_text (entry_words (entry.Crash pick))
+brief_text (entry.CrashIn thread now kcall k pick) = line_text (codes "crash" ∷ pick_words pick)
+brief_text (entry.Recovered ready quarantined) = line_text (entry_words (entry.Recovered ready quarantined))
+brief_text (entry.Lost path) = line_text (entry_words (entry.Lost path))
+brief_text (entry.Skip line why) = line_text (entry_words (entry.Skip line why))
+brief_text (entry.Quarantine path) = line_text (entry_words (entry.Quarantine path))
+brief_text (entry.Coffers rows) = rows_text rows
 brief_text e = []
 
--- a whole trace
+-- a whole trace in brief
 abbrev pub brief_texts : List Entry → List ℕ
 brief_texts trace = flat_map brief_text trace

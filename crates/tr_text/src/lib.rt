@@ -1,6 +1,11 @@
 //! The texts of a trace's entries.
 #![tactic(auto)]
 
-mod text;
+mod actions;
+mod calls;
+mod entry;
+mod law;
+mod words;
 
-pub use text::append_brief_text;
+pub use entry::{append_brief_text, append_full_text};
+pub use law::full_text_law;

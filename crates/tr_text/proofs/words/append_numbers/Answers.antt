@@ -1,5 +1,5 @@
 use Rattle.tr_text.proofs.TextLemmas.{kept_on}
-use Rattle.tr_text.proofs.text.append_numbers.Goals as goal
+use Rattle.tr_text.proofs.words.append_numbers.Goals as goal
 
 pub returns-in_err-append_number-clause-kept : goal.returns-in_err-append_number-clause-kept
 returns-in_err-append_number-clause-kept c =
