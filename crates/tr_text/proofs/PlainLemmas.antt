@@ -1,5 +1,5 @@
 -- The words of an entry are plain, and none of an action's is `=`.
-use Rattle.std.proofs.Common.{◌≡◌, ℕ, ◌+◌, List, [], ◌∷◌, ◌++◌, length, Bool, true, false, refl, arith}
+use Rattle.std.proofs.Common.{◌≡◌, ℕ, List, [], ◌∷◌, ◌++◌, length, Bool, true, false, refl, arith}
 use Rattle.std.specs.List.{list_all, AllByRecursion}
 use Rattle.std.specs.Prelude.{Option, Some, None, codes}
 use Rattle.std.specs.Fmt.{decimal}
@@ -32,10 +32,9 @@ use Rattle.tr_types.specs.declared.kernel_call.Kcall.{Kcall}
 use Rattle.tr_types.specs.declared.kernel_call.Kcall.TheVariants as call
 use Rattle.tr_types.specs.declared.kernel_call.KernAnswer.{KernAnswer}
 use Rattle.tr_types.specs.declared.kernel_call.KernAnswer.TheVariants as kern
-use Rattle.tr_types.specs.declared.permission.Right.{Right}
-use Rattle.tr_text.specs.Spelling.{thread_name, process_name, mode_text, bit_text, list_text, kind_text, right_text, fault_text, mark_text, why_text, state_text}
+use Rattle.tr_text.specs.Spelling.{thread_name, process_name, mode_text, bit_text, list_text, kind_text, fault_text, mark_text, why_text, state_text}
 use Rattle.tr_text.specs.Words.{command_words, reply_words, kcall_words, action_words, found_words, second_words, kern_words, answer_words, pick_words, groups_words, row_words, answered_words, entry_words}
-use Rattle.tr_text.specs.Written.{IsNumber, IsThread, IsProcess, IsPath, IsName, IsOneRight, AreNumbers, IsLink, IsGuard, IsWrittenCommand, IsWrittenReply, IsWrittenCall, IsWrittenAction, IsWrittenFound, IsWrittenSecond, IsWrittenKern, is_kernel, IsWrittenAnswer, IsWrittenPick, IsWrittenRow, IsWritten}
+use Rattle.tr_text.specs.Written.{IsNumber, IsThread, IsProcess, IsPath, IsName, AreNumbers, IsLink, IsGuard, IsWrittenCommand, IsWrittenReply, IsWrittenCall, IsWrittenAction, IsWrittenFound, IsWrittenSecond, IsWrittenKern, is_kernel, IsWrittenAnswer, IsWrittenPick, IsWrittenRow, IsWritten}
 use Rattle.tr_text.proofs.Reading.{is_equals}
 use Rattle.tr_text.proofs.WordLemmas.{is_low, IsPlain, low_is_plain, low_no_equals, number_low, number_plain, name_plain, mode_low, bit_low, share_plain, share_no_equals, right_plain, right_no_equals, list_low, data_plain}
 use Rattle.tr_text.proofs.PathLemmas.{name_plain_word, path_plain, path_no_equals}

@@ -1,6 +1,6 @@
 -- How texts are read back. Each reader is total, and gives anything for what isn't a text.
-use Rattle.std.proofs.Common.{ℕ, ◌+◌, ◌-◌, ◌*◌, ◌<◌, suc, List, [], ◌∷◌, length, map, take, drop, Bool, true, false, cond, eqb, ltb}
-use Rattle.std.specs.Prelude.{Option, Some, None, codes, slice_index_or, if◌then◌else◌}
+use Rattle.std.proofs.Common.{ℕ, ◌+◌, ◌-◌, ◌*◌, List, [], ◌∷◌, map, take, drop, Bool, true, false, cond, eqb, ltb}
+use Rattle.std.specs.Prelude.{Option, Some, None, codes, slice_index_or}
 use Rattle.std.specs.List.{slice_split}
 use Rattle.std.specs.Str.Parse.{digits_value}
 use Rattle.tr_types.specs.Paths.{same_text}

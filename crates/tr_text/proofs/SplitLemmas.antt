@@ -1,10 +1,10 @@
 -- The parts of a text between separators.
-use Rattle.std.proofs.Common.{◌≡◌, ℕ, List, [], ◌∷◌, ◌++◌, map, flat_map, Bool, true, false, not, ◌&&◌, eqb, refl, ap, sym, ◌∙◌, append_assoc}
+use Rattle.std.proofs.Common.{◌≡◌, ℕ, List, [], ◌∷◌, ◌++◌, map, flat_map, Bool, true, not, eqb, refl, ap, ◌∙◌}
 use Rattle.std.proofs.lemmas.Bool.{and_parts, eq-eqb, not-true}
 use Rattle.std.proofs.lemmas.List.{append-nil}
 use Rattle.std.proofs.lemmas.List.Splits.{slice_split-cons_yes, slice_split-cons_no}
-use Rattle.std.specs.List.{list_all, slice_split, onto_first, AllByRecursion}
-use Rattle.tr_text.specs.Text.{then_text, then_words}
+use Rattle.std.specs.List.{list_all, onto_first, AllByRecursion}
+use Rattle.tr_text.specs.Text.{then_words}
 use Rattle.tr_text.proofs.Reading.{parts_at}
 
 -- a byte isn't in a text

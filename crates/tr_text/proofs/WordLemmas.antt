@@ -1,17 +1,16 @@
 -- Which bytes stand in the words of a text, and that numbers and the like are read back.
-use Rattle.std.proofs.Common.{◌≡◌, ◌⊎◌, inl, inr, ℕ, ◌+◌, ◌-◌, ◌*◌, ◌/◌, ◌%◌, ◌<◌, ◌≤◌, ◌^◌, List, [], ◌∷◌, ◌++◌, length, map, flat_map, Bool, true, false, not, ◌&&◌, cond, eqb, ltb, leb, refl, ap, sym, subst, ◌∙◌, arith}
-use Rattle.std.proofs.lemmas.Bool.{and_parts, and_from, and_right, lt-ltb, le-ltb, le-leb, leb-true, ltb-true, ne_eqb, eqb-true, not_from_false, cond-true, cond-false, cases_lt}
+use Rattle.std.proofs.Common.{◌≡◌, ◌⊎◌, inl, inr, ℕ, ◌+◌, ◌-◌, ◌*◌, ◌/◌, ◌%◌, ◌<◌, ◌≤◌, List, [], ◌∷◌, ◌++◌, length, map, flat_map, Bool, true, false, not, ◌&&◌, eqb, ltb, leb, refl, ap, sym, subst, ◌∙◌, arith}
+use Rattle.std.proofs.lemmas.Bool.{and_parts, and_from, and_right, lt-ltb, le-ltb, le-leb, leb-true, ltb-true, ne_eqb, not_from_false, cond-true, cond-false, cases_lt}
 use Rattle.std.proofs.lemmas.Fmt.{decimal_by_steps, decimal_is_IsNumeral, decimal_nonempty}
 use Rattle.std.proofs.lemmas.List.{length-append}
 use Rattle.std.proofs.lemmas.List.Folds.{list_all-append}
 use Rattle.std.specs.Fmt.{decimal}
 use Rattle.std.specs.List.{list_all, AllByRecursion}
 use Rattle.std.specs.Prelude.{codes}
-use Rattle.std.specs.Str.Parse.{digits_value}
 use Rattle.tr_types.specs.Paths.{same_text}
 use Rattle.tr_types.specs.declared.permission.Right.{Right}
-use Rattle.tr_text.specs.Spelling.{thread_name, process_name, mode_text, bit_text, share_text, right_text, list_text, hex_digit, hex_byte, data_text}
-use Rattle.tr_text.specs.Written.{IsNumber, IsThread, IsProcess, IsMode, IsByte, IsOneRight, AreNumbers}
+use Rattle.tr_text.specs.Spelling.{mode_text, bit_text, share_text, right_text, list_text, hex_digit, hex_byte, data_text}
+use Rattle.tr_text.specs.Written.{IsNumber, IsMode, IsByte, IsOneRight, AreNumbers}
 use Rattle.tr_text.proofs.Reading.{parts_at, byte_at, read_number, read_name, read_mode, read_bit, read_share, read_right, read_list, hex_value, read_pairs, read_data, is_equals, is_name}
 use Rattle.tr_text.proofs.SplitLemmas.{lacks, joined_parts}
 

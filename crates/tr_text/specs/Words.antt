@@ -20,7 +20,6 @@ use Rattle.tr_types.specs.declared.kernel_call.Kcall.{Kcall}
 use Rattle.tr_types.specs.declared.kernel_call.Kcall.TheVariants as call
 use Rattle.tr_types.specs.declared.kernel_call.KernAnswer.{KernAnswer}
 use Rattle.tr_types.specs.declared.kernel_call.KernAnswer.TheVariants as kern
-use Rattle.tr_types.specs.declared.permission.Cred.{Cred}
 use Rattle.tr_text.specs.Spelling.{process_name, thread_name, mode_text, bit_text, list_text, kind_text, right_text, share_text, data_text, fault_text, mark_text, why_text, state_text}
 
 -- no word, or one

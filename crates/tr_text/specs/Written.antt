@@ -1,5 +1,5 @@
 -- Which entries have texts that can be read back, what a text doesn't show, and that a text shows all else.
-use Rattle.std.specs.Prelude.{◌≡◌, ◌⊎◌, ℕ, ◌<◌, ◌^◌, ⊤, List, length, Bool, true, false, Option, Some, None}
+use Rattle.std.specs.Prelude.{◌≡◌, ◌⊎◌, ℕ, ◌<◌, ◌^◌, ⊤, List, length, map, Bool, true, false, Option, Some, None}
 use Rattle.std.specs.List.{AllByRecursion}
 use Rattle.tr_types.specs.Paths.{is_path_text, is_name_text}
 use Rattle.tr_types.specs.Permission.{group_ids, groups_of}
@@ -24,7 +24,7 @@ use Rattle.tr_types.specs.declared.kernel_call.KernAnswer.{KernAnswer}
 use Rattle.tr_types.specs.declared.kernel_call.KernAnswer.TheVariants as kern
 use Rattle.tr_types.specs.declared.permission.Cred.{Cred}
 use Rattle.tr_types.specs.declared.permission.Right.{Right}
-use Rattle.tr_text.specs.Text.{full_text}
+use Rattle.tr_text.specs.Text.{full_text, full_texts}
 
 -- What can be written: numbers that fit their fields, paths and names, modes of three digits, single rights.
 
@@ -190,3 +190,7 @@ shown_entry e = e
 -- Two entries with one full text differ only in what no text shows.
 abbrev pub FullTextLaw : Type 0
 FullTextLaw = (one other : Entry) → IsWritten one → IsWritten other → full_text one ≡ full_text other → shown_entry one ≡ shown_entry other
+
+-- the same of whole traces
+abbrev pub FullTextsLaw : Type 0
+FullTextsLaw = (one other : List Entry) → AllByRecursion IsWritten one → AllByRecursion IsWritten other → full_texts one ≡ full_texts other → map shown_entry one ≡ map shown_entry other

@@ -8,4 +8,4 @@ mod law;
 mod words;
 
 pub use entry::{append_brief_text, append_full_text};
-pub use law::full_text_law;
+pub use law::{full_text_law, full_texts_law};
