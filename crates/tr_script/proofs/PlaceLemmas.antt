@@ -7,7 +7,8 @@ use Rattle.tr_types.specs.Fold.{Each}
 use Rattle.tr_types.specs.declared.command.Command.{Command}
 use Rattle.tr_types.specs.declared.command.Command.TheVariants.{Create, Stat}
 use Rattle.zo_model.specs.Commands.{IsCommand}
-use Rattle.tr_script.specs.Grammar.{Declared, declared, nothing_declared, words_of, lines_of, is_kept, command_words, line_words, MayStand, text_limit, IsScript}
+use Rattle.tr_text.specs.Words.{command_words}
+use Rattle.tr_script.specs.Grammar.{Declared, declared, nothing_declared, words_of, lines_of, is_kept, line_words, MayStand, text_limit, IsScript}
 use Rattle.tr_text.specs.Spelling.{mode_text}
 use Rattle.tr_script.specs.Places.{Slot, FirstWord, CommandWord, MayBe, slots_behind, IsBadAt, IsBadIn, IsEarlier, IsFirstOf, IsFirstBad, line_behind, column_behind}
 use Rattle.tr_script.specs.Reading.{Reads, OnBad, OnFault}

@@ -7,7 +7,8 @@ use Rattle.std.proofs.lemmas.Fmt.{decimal_injective}
 use Rattle.std.specs.Fmt.{decimal}
 use Rattle.tr_types.specs.declared.command.Command.{Command}
 use Rattle.tr_types.specs.declared.command.Command.TheVariants.{Create, Stat}
-use Rattle.tr_script.specs.Grammar.{Declared, declared, nothing_declared, words_of, lines_of, is_kept, kept_lines, command_words, line_words, MayStand, IsThreadOf}
+use Rattle.tr_text.specs.Words.{command_words}
+use Rattle.tr_script.specs.Grammar.{Declared, declared, nothing_declared, words_of, lines_of, is_kept, kept_lines, line_words, MayStand, IsThreadOf}
 use Rattle.zo_model.specs.Commands.{IsCommand}
 use Rattle.tr_script.specs.Places.{FirstWord, IsBadAt, IsBadIn}
 use Rattle.tr_script.specs.Reading.{OnBad, Reads}

@@ -5,9 +5,9 @@ use Rattle.std.specs.Fmt.{decimal}
 use Rattle.tr_types.specs.Fold.{Each}
 use Rattle.tr_types.specs.Permission.{no_groups}
 use Rattle.tr_types.specs.declared.command.Command.{Command}
-use Rattle.tr_types.specs.declared.command.Command.TheVariants.{Create, Stat}
 use Rattle.zo_model.specs.Commands.{IsCommand}
-use Rattle.tr_text.specs.Spelling.{process_name, thread_name, mode_text}
+use Rattle.tr_text.specs.Spelling.{process_name, thread_name}
+use Rattle.tr_text.specs.Words.{command_words}
 use Rattle.tr_script.specs.declared.script.Line.{Line}
 use Rattle.tr_script.specs.declared.script.Line.TheVariants.{Mkfs, Process, Thread, Call, Do, Finish, Open, Stray}
 
@@ -37,10 +37,6 @@ abbrev pub kept_lines : List ℕ → List (List ℕ)
 kept_lines text = filter is_kept (lines_of text)
 
 -- How a line is spelled, in words. Numbers are decimal with no leading zero.
-
-abbrev pub command_words : Command → List (List ℕ)
-command_words (Create path mode) = codes "create" ∷ path ∷ mode_text mode ∷ []
-command_words (Stat path) = codes "stat" ∷ path ∷ []
 
 abbrev pub line_words : Line → List (List ℕ)
 line_words (Mkfs pages) = codes "mkfs" ∷ decimal pages ∷ []

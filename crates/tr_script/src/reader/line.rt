@@ -1,7 +1,8 @@
 // Reads one line of a script from its words.
 ghost use Rattle.std.specs.Prelude.{◌≡◌, [], ◌∷◌, IfOk, IsTrue, false, codes};
-ghost use Rattle.tr_script.specs.Grammar.{Declared, command_words, line_words, MayStand, IsThreadOf};
+ghost use Rattle.tr_script.specs.Grammar.{Declared, line_words, MayStand, IsThreadOf};
 ghost use Rattle.tr_text.specs.Spelling.{thread_name};
+ghost use Rattle.tr_text.specs.Words.{command_words};
 ghost use Rattle.zo_model.specs.Commands.{IsCommand};
 ghost use Rattle.tr_script.specs.Places.{FirstWord, Size, NewProcess, Zero, NewThread, KnownProcess, KnownThread, StrayThread, CommandWord, FilePath, AnyPath, FileMode, Address, Number, MayBegin, slots_behind};
 ghost use Rattle.tr_script.specs.Reading.{OnBad, IsBadOf, first_text};
