@@ -1,6 +1,7 @@
 -- What ties the parts of a bus together.
 use Rattle.std.specs.Prelude.{ℕ, ◌<◌, List}
 use Rattle.pm_words.specs.Word.{Word}
+use Rattle.tr_types.specs.declared.limits.TheConstants.{PROCESSES}
 use Rattle.bus_model.specs.Machine.{Bus, ProcessWasStarted, HasRegisters}
 use Rattle.kern_calls.specs.Calls.{KernelView, IsMounted}
 
@@ -18,4 +19,4 @@ bus_of words kernel pkrus = record {
 pub record AreTied (words : List Word) (kernel : KernelView) (pkrus : List ℕ) : Type 0 where
   pub mounted : IsMounted kernel words
   pub registers : HasRegisters (bus_of words kernel pkrus)
-  pub small : (process : ℕ) → ProcessWasStarted (bus_of words kernel pkrus) process → process < 64
+  pub small : (process : ℕ) → ProcessWasStarted (bus_of words kernel pkrus) process → process < PROCESSES

@@ -13,6 +13,7 @@ ghost use Rattle.bus_machine.specs.Steps.{Does};
 
 use kern_calls::{Kernel, MountFault};
 use kern_laws::store_law;
+use kern_model::NO_THREAD;
 use page_rights::Pkru;
 use pm_words::{NoMemory, Words};
 use sqlite_items::Boxed;
@@ -21,10 +22,7 @@ use std::marker::Model;
 use tr_types::{Action, Answer, Cred, FaultKind, Kcall, KernAnswer};
 use zo_layout::{PAGE_BYTES, PAGE_WORDS, WORD_BYTES, committed_word};
 
-const THREADS: usize = 256;
-
-/// The number under which the kernel flushes and fences. It is no thread's.
-const KERNEL_THREAD: u16 = 256;
+const THREADS: usize = tr_types::THREADS as usize;
 
 /// The memory, the kernel over it, which knows who was started, and the registers.
 ///
@@ -286,7 +284,7 @@ fn settle(words: &mut Words) -> Result<(), NoMemory>
 {
     // Every image has room for the journal.
     let _pages = words.pages();
-    words.flush(KERNEL_THREAD, committed_word())?;
-    words.fence(KERNEL_THREAD);
+    words.flush(NO_THREAD, committed_word())?;
+    words.fence(NO_THREAD);
     Ok(())
 }
