@@ -5,9 +5,12 @@ ghost use Rattle.tr_text.specs.Spelling as spelling;
 ghost use Rattle.tr_text.specs.Spelling.{mode_text, process_name, thread_name};
 ghost use Rattle.tr_text.specs.Text.{then_number, then_text, then_words};
 
-use itoa::Buffer;
+use itoa::write_digits;
 use pm_words::NoMemory;
 use tr_types::{CofferState, FaultKind, Kind, Mark, Name, Right, Why};
+
+/// The most digits of a number of 64 bits.
+const MOST_DIGITS: usize = 20;
 
 /// Appends a word and then each number after a space.
 pub(crate) fn append_numbers(
@@ -30,16 +33,21 @@ pub(crate) fn append_number(text: &mut Vec<u8>, number: u64) -> Result<(), NoMem
     ensures ok { OnOk result (text.new.items ≡ text.old.items ++ then_number number) }
     ensures kept { take (length text.old.items) text.new.items ≡ text.old.items }
 {
-    text.push(b' ')?;
-    append_digits(text, number)
+    append_behind(text, b' ', number)
 }
 
-fn append_digits(text: &mut Vec<u8>, number: u64) -> Result<(), NoMemory>
-    ensures ok { OnOk result (text.new.items ≡ text.old.items ++ decimal number) }
+/// Appends a byte and a number, in one piece.
+fn append_behind(text: &mut Vec<u8>, byte: u8, number: u64) -> Result<(), NoMemory>
+    ensures ok { OnOk result (text.new.items ≡ text.old.items ++ byte ∷ decimal number) }
     ensures kept { take (length text.old.items) text.new.items ≡ text.old.items }
 {
-    let mut digits = Buffer::new();
-    text.extend_from_slice(digits.format(number).as_bytes())
+    if number < 10 {
+        return text.extend_from_slice(&[byte, b'0' + number as u8]);
+    }
+    let mut digits = [0; MOST_DIGITS + 1];
+    let start = write_digits(number, &mut digits, MOST_DIGITS + 1);
+    digits[start - 1] = byte;
+    text.extend_from_slice(&digits[start - 1..])
 }
 
 /// Appends the name of a thread: threads are numbered from 0, and named from `t1` on.
@@ -47,8 +55,7 @@ pub(crate) fn append_thread(text: &mut Vec<u8>, thread: u16) -> Result<(), NoMem
     ensures ok { OnOk result (text.new.items ≡ text.old.items ++ thread_name thread) }
     ensures kept { take (length text.old.items) text.new.items ≡ text.old.items }
 {
-    text.push(b't')?;
-    append_digits(text, u64::from(thread) + 1)
+    append_behind(text, b't', u64::from(thread) + 1)
 }
 
 /// Appends the name of a process: processes are numbered from 0, and named from `p1` on.
@@ -56,8 +63,7 @@ pub(crate) fn append_process(text: &mut Vec<u8>, process: u8) -> Result<(), NoMe
     ensures ok { OnOk result (text.new.items ≡ text.old.items ++ process_name process) }
     ensures kept { take (length text.old.items) text.new.items ≡ text.old.items }
 {
-    text.push(b'p')?;
-    append_digits(text, u64::from(process) + 1)
+    append_behind(text, b'p', u64::from(process) + 1)
 }
 
 /// Appends a space and a word.
@@ -85,19 +91,18 @@ pub(crate) fn append_list(text: &mut Vec<u8>, numbers: &[u32]) -> Result<(), NoM
     ensures ok { OnOk result (text.new.items ≡ text.old.items ++ then_text (spelling.list_text numbers.now)) }
     ensures kept { take (length text.old.items) text.new.items ≡ text.old.items }
 {
-    text.push(b' ')?;
     match numbers {
-        [] => Ok(()),
+        [] => text.extend_from_slice(b" "),
         [first, rest @ ..] => append_some(text, *first, rest),
     }
 }
 
-/// Appends a number, and each of the rest after a comma.
+/// Appends a number after a space, and each of the rest after a comma.
 fn append_some(text: &mut Vec<u8>, first: u32, rest: &[u32]) -> Result<(), NoMemory>
-    ensures ok { OnOk result (text.new.items ≡ text.old.items ++ spelling.list_text (first ∷ rest.now)) }
+    ensures ok { OnOk result (text.new.items ≡ text.old.items ++ then_text (spelling.list_text (first ∷ rest.now))) }
     ensures kept { take (length text.old.items) text.new.items ≡ text.old.items }
 {
-    append_digits(text, u64::from(first))?;
+    append_number(text, u64::from(first))?;
     append_more(text, rest)
 }
 
@@ -107,8 +112,7 @@ fn append_more(text: &mut Vec<u8>, numbers: &[u32]) -> Result<(), NoMemory>
     ensures kept { take (length text.old.items) text.new.items ≡ text.old.items }
 {
     for &number in numbers {
-        text.push(b',')?;
-        append_digits(text, u64::from(number))?;
+        append_behind(text, b',', u64::from(number))?;
     }
     Ok(())
 }
