@@ -5,6 +5,7 @@ use Rattle.std.specs.Fmt.{decimal}
 use Rattle.tr_types.specs.Fold.{Each}
 use Rattle.tr_types.specs.Permission.{no_groups}
 use Rattle.tr_types.specs.declared.command.Command.{Command}
+use Rattle.tr_types.specs.declared.limits.TheConstants.{PROCESSES, THREADS}
 use Rattle.zo_model.specs.Commands.{IsCommand}
 use Rattle.tr_text.specs.Spelling.{process_name, thread_name}
 use Rattle.tr_text.specs.Words.{command_words}
@@ -87,8 +88,8 @@ IsScriptAddress addr = (addr % 8 ≡ 0) × (addr ≤ 67108856)
 -- given, and that thread doesn't stray.
 abbrev pub MayStand : Declared → Line → Type 0
 MayStand d (Mkfs pages) = (d.begun ≡ false) × (64 ≤ pages) × (pages ≤ 16384)
-MayStand d (Process process cred) = (d.begun ≡ true) × (Contains d.processes process → ⊥) × (process < 64) × (cred.uid ≡ 0) × (cred.gid ≡ 0) × (cred.groups ≡ no_groups)
-MayStand d (Thread thread process) = (d.begun ≡ true) × (IsThreadOf d thread → ⊥) × (thread < 256) × Contains d.processes process
+MayStand d (Process process cred) = (d.begun ≡ true) × (Contains d.processes process → ⊥) × (process < PROCESSES) × (cred.uid ≡ 0) × (cred.gid ≡ 0) × (cred.groups ≡ no_groups)
+MayStand d (Thread thread process) = (d.begun ≡ true) × (IsThreadOf d thread → ⊥) × (thread < THREADS) × Contains d.processes process
 MayStand d (Call thread command) = (d.begun ≡ true) × IsThreadOf d thread × IsCommand command × (d.calling ≡ None)
 MayStand d (Do thread command) = (d.begun ≡ true) × IsThreadOf d thread × IsCommand command × (d.calling ≡ None)
 MayStand d (Finish thread) = (d.begun ≡ true) × IsThreadOf d thread

@@ -2,6 +2,7 @@
 -- says which words may stand at a kind of place, and which kinds of place are then still to come.
 use Rattle.std.specs.Prelude.{◌≡◌, ◌≢◌, ◌⊎◌, ℕ, ◌+◌, ◌-◌, ◌<◌, ◌≤◌, List, [], ◌∷◌, ◌++◌, length, take, Contains, true, false, Some, None, if◌then◌else◌, ◌==◌, bytes_eq, codes}
 use Rattle.std.specs.Fmt.{decimal}
+use Rattle.tr_types.specs.declared.limits.TheConstants.{PROCESSES, THREADS}
 use Rattle.zo_model.specs.Commands.{IsPath, IsPathOfOne}
 use Rattle.tr_script.specs.Grammar.{Declared, declared, nothing_declared, words_of, lines_of, is_kept, line_words, MayStand, IsThreadOf, IsScriptAddress, text_limit}
 use Rattle.tr_text.specs.Spelling.{process_name, thread_name, mode_text}
@@ -43,12 +44,12 @@ MayBegin d word =
 abbrev pub MayBe : Declared → Slot → List ℕ → Type 0
 MayBe d FirstWord word = MayBegin d word
 MayBe d Size word = (pages : ℕ) × (word ≡ decimal pages) × (64 ≤ pages) × (pages ≤ 16384)
-MayBe d NewProcess word = (process : ℕ) × (word ≡ process_name process) × (process < 64) × (Contains d.processes process → ⊥)
+MayBe d NewProcess word = (process : ℕ) × (word ≡ process_name process) × (process < PROCESSES) × (Contains d.processes process → ⊥)
 MayBe d Zero word = word ≡ codes "0"
-MayBe d NewThread word = (thread : ℕ) × (word ≡ thread_name thread) × (thread < 256) × (IsThreadOf d thread → ⊥)
-MayBe d KnownProcess word = (process : ℕ) × (word ≡ process_name process) × (process < 64) × Contains d.processes process
-MayBe d KnownThread word = (thread : ℕ) × (word ≡ thread_name thread) × (thread < 256) × IsThreadOf d thread
-MayBe d StrayThread word = (thread : ℕ) × (word ≡ thread_name thread) × (thread < 256) × IsThreadOf d thread × (d.calling ≢ Some thread)
+MayBe d NewThread word = (thread : ℕ) × (word ≡ thread_name thread) × (thread < THREADS) × (IsThreadOf d thread → ⊥)
+MayBe d KnownProcess word = (process : ℕ) × (word ≡ process_name process) × (process < PROCESSES) × Contains d.processes process
+MayBe d KnownThread word = (thread : ℕ) × (word ≡ thread_name thread) × (thread < THREADS) × IsThreadOf d thread
+MayBe d StrayThread word = (thread : ℕ) × (word ≡ thread_name thread) × (thread < THREADS) × IsThreadOf d thread × (d.calling ≢ Some thread)
 MayBe d CommandWord word = IsOneOf (codes "create" ∷ codes "stat" ∷ []) word
 MayBe d FilePath word = IsPathOfOne word
 MayBe d AnyPath word = IsPath word

@@ -6,9 +6,9 @@ ghost use Rattle.tr_text.specs.Spelling.{process_name, thread_name};
 ghost use Rattle.zo_model.specs.Commands.{IsName, IsPath, IsPathOfOne};
 
 /// Processes are `p1` to `p64`, threads `t1` to `t256`.
-const PROCESSES: u64 = 64;
+const PROCESSES: u64 = tr_types::PROCESSES as u64;
 
-const THREADS: u64 = 256;
+const THREADS: u64 = tr_types::THREADS as u64;
 
 /// The least and the greatest number of pages of an image.
 const LEAST_PAGES: u64 = 64;
