@@ -2,10 +2,11 @@
 ghost use Rattle.std.specs.Prelude.{◌≡◌, ℕ, ◌<◌, ◌⊎◌, ◌↔◌, length, IfOk, OnOk, IsTrue, false, true};
 ghost use Rattle.std.specs.Result.{IsErrOf};
 ghost use Rattle.pm_words.specs.Memory.{HasPages};
+ghost use Rattle.kern_model.specs.KernelCalls as calls;
 ghost use Rattle.kern_model.specs.KernelCalls.{IsCall};
 ghost use Rattle.kern_model.specs.KernelRules.{IsFirstFault, IsSoundKernel};
 ghost use Rattle.bus_model.specs.Machine as spec;
-ghost use Rattle.bus_model.specs.Machine.{IsAction, ProcessWasStarted, ThreadWasStarted};
+ghost use Rattle.bus_model.specs.Machine.{IsAction, ProcessWasStarted, ThreadWasStarted, callers_of};
 ghost use Rattle.tr_types.specs.declared.action.Action.TheVariants as action;
 ghost use Rattle.bus_machine.specs.Opening.{bus_opened, settled_words};
 ghost use Rattle.bus_machine.specs.Calls.{with_bus};
@@ -104,6 +105,13 @@ impl Bus {
         ensures { IsTrue result ↔ ThreadWasStarted self.now.bus thread }
     {
         self.kernel.process_of(thread).is_some()
+    }
+
+    /// The credentials of a thread's process.
+    pub fn cred_of(&self, thread: u16) -> Cred
+        ensures { ThreadWasStarted self.now.bus thread → result ≡ calls.cred_of (callers_of self.now.bus) thread }
+    {
+        self.kernel.cred_of(thread)
     }
 
     pub fn start_process(&mut self, process: u8, cred: Cred) -> Result<(), NoMemory>

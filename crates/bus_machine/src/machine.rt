@@ -2,7 +2,8 @@
 ghost use Rattle.std.specs.Prelude.{◌≡◌, ◌↔◌, ℕ, ◌<◌, ◌⊎◌, IfOk, IsTrue, OnOk, MatchResult, Ok, Err, true, false};
 ghost use Rattle.std.specs.Result.{IsErrOf};
 ghost use Rattle.kern_model.specs.KernelRules.{IsFirstFault, IsSoundKernel};
-ghost use Rattle.bus_model.specs.Machine.{IsAction, ProcessWasStarted, ThreadWasStarted};
+ghost use Rattle.kern_model.specs.KernelCalls as calls;
+ghost use Rattle.bus_model.specs.Machine.{IsAction, ProcessWasStarted, ThreadWasStarted, callers_of};
 ghost use Rattle.tr_types.specs.declared.action.Action.TheVariants.{Store};
 ghost use Rattle.bus_machine.specs.Opening.{bus_opened, OpensAsIs};
 ghost use Rattle.bus_machine.specs.Calls.{StartsProcess, StartsThread, ActsAs};
@@ -68,6 +69,13 @@ impl Machine {
         ensures { IsTrue result ↔ ThreadWasStarted self.now.bus thread }
     {
         self.bus.has_thread(thread)
+    }
+
+    /// The credentials of the process of a thread that was started.
+    pub fn cred_of(&self, thread: u16) -> Cred
+        ensures { ThreadWasStarted self.now.bus thread → result ≡ calls.cred_of (callers_of self.now.bus) thread }
+    {
+        self.bus.cred_of(thread)
     }
 
     /// Starts a process, which acts for a user. `Started` where it was started before.

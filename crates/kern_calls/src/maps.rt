@@ -125,8 +125,8 @@ impl Kernel {
         }
     }
 
-    /// The credentials of a thread's process; where it wasn't started, those of nobody.
-    pub(crate) fn cred_of(&self, thread: u16) -> Cred
+    /// The credentials of a thread's process; where it wasn't started, those of nobody. Takes no memory.
+    pub fn cred_of(&self, thread: u16) -> Cred
         ensures cred { IsSome (process_of self.now.callers.threads thread) → result ≡ calls.cred_of self.now.callers thread }
         ensures fit { IsFit result }
     {

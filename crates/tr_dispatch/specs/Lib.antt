@@ -1,2 +1,4 @@
--- what the session of a call knows and gives
+-- a world in which the root coffer is the only one
+pub mod Rooted
+-- what a session knows between two of its actions, and what it gives
 pub mod Sessions

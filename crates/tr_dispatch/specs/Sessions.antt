@@ -1,20 +1,10 @@
 -- The session of one call: the thread finds and maps the coffer that its command consults, opens the coffer's key alone,
 -- lets the call work, closes its register, unmaps the coffer, and replies. What it knows between two of its actions,
--- stage by stage, and what it gives.
-use Rattle.std.specs.Prelude.{◌≡◌, ◌≢◌, ℕ, ◌<◌, List, [], ◌∷◌, length, Option, Some, None, unwrap_or, Bool, true, false}
-use Rattle.pm_words.specs.Word.{Word}
-use Rattle.pm_words.specs.Memory.{HasPages}
-use Rattle.zo_layout.specs.Layout.{kernel_pages}
-use Rattle.kern_model.specs.KernelView.{pages_of, owner_of}
-use Rattle.tr_model.specs.RootCoffer.{IsRootAlone, found_at, root_mapped}
-use Rattle.bus_model.specs.Machine.{Bus, ThreadWasStarted, pkru_of, Answers, IsAction}
+-- stage by stage, and what it gives. All of it is said of the thread's own row of the holders, of its own register and
+-- seat, and of the coffer in which it works.
+use Rattle.std.specs.Prelude.{◌≡◌, ◌≢◌, ℕ, ◌<◌, length, Contains, Option, Some, None, unwrap_or, Bool, true, false}
+use Rattle.bus_model.specs.Machine.{Bus, ThreadLives, pkru_of, Answers, IsAction}
 use Rattle.kern_model.specs.Rights.{closed_pkru, only_pkru}
-use Rattle.tr_model.specs.Marks.{mark_of}
-use Rattle.zo_model.specs.Tree.{Member}
-use Rattle.tr_model.specs.Denotes.{control_of, dir_of, Denotes}
-use Rattle.zo_model.specs.Commands.{IsCommand, consulted_path}
-use Rattle.tr_model.specs.World.{World, Phase, NotYet, Idle, Runs, Committed, stepped, IsLegal, MayReply}
-use Rattle.tr_model.specs.Windows.{FindsShut}
 use Rattle.tr_types.specs.declared.action.Action.{Action}
 use Rattle.tr_types.specs.declared.action.Answer.{Answer}
 use Rattle.tr_types.specs.declared.action.Answer.TheVariants.{Done, Kern}
@@ -26,18 +16,22 @@ use Rattle.tr_types.specs.declared.entry.Mark.{Mark}
 use Rattle.tr_types.specs.declared.kernel_call.Holder.{Holder}
 use Rattle.tr_types.specs.declared.kernel_call.KernAnswer.TheVariants.{Found, Mapped}
 use Rattle.tr_types.specs.declared.permission.Right.{Right}
-use Rattle.zo_ops.specs.declared.call.CallRun.{CallRun}
-use Rattle.zo_ops.specs.declared.call.Coffer.{Coffer}
-use Rattle.zo_ops.specs.Knows.{Ground, CallKnows}
+use Rattle.zo_model.specs.Alone.{root_cred}
+use Rattle.zo_model.specs.Commands.{IsCommand, sought_path}
+use Rattle.zo_model.specs.Legal.{NoPoint, MayReply}
+use Rattle.zo_model.specs.Seats.{Seat, LastFind, NotAsked}
+use Rattle.tr_model.specs.Marks.{IsMarked}
+use Rattle.tr_model.specs.OneWindow.{IsKey, IsWindowed, FindsShut, MapsFound}
+use Rattle.tr_model.specs.RootCoffer.{found_at, root_mapped}
+use Rattle.tr_model.specs.Worlds.{World, stepped, coffers_at, IsLegal, IsDisciplined, IsDenoted}
+use Rattle.zo_ops.specs.declared.op.OpRun.{OpRun}
+use Rattle.zo_ops.specs.Knows.{OpKnows}
+use Rattle.tr_dispatch.specs.Rooted.{IsRooted, IsAtRest, scene_of}
 use Rattle.tr_dispatch.specs.declared.session.Session.{Session}
 use Rattle.tr_dispatch.specs.declared.session.SessionStep.{SessionStep}
 use Rattle.tr_dispatch.specs.declared.session.SessionStep.TheVariants as step
 use Rattle.tr_dispatch.specs.declared.session.Stage.{Stage}
 use Rattle.tr_dispatch.specs.declared.session.Stage.TheVariants as stage
-
--- the words lie as a call finds them, the tree is theirs, and the root coffer is the only one
-abbrev pub IsGrounded : List Word → List Member → Type 0
-IsGrounded words tree = (coffer : Coffer) × Ground coffer words tree × IsRootAlone words
 
 -- the command stores
 abbrev pub writes : Command → Bool
@@ -49,118 +43,102 @@ abbrev pub right_of : Command → Right
 right_of (Create path mode) = record { 0 = 2 }
 right_of (Stat path) = record { 0 = 1 }
 
--- The row of a thread that has mapped the root coffer for its command. No other thread has a map at that time, so that
--- the key is the first.
-abbrev pub row_of : ℕ → Command → Holder
-row_of thread command = record { thread = thread; id = 1; key = 1; right = right_of command; exclusive = false }
+-- the thread's row where it has mapped the root coffer for its command
+abbrev pub row_of : ℕ → Command → ℕ → Holder
+row_of thread command key = record { thread = thread; id = 1; key = key; right = right_of command; exclusive = false }
 
--- the register in the window: the coffer's key alone, for stores only where the command stores
-abbrev pub open_pkru : Command → ℕ
-open_pkru command = only_pkru 1 (writes command)
+-- the thread holds no coffer, and its window is closed
+pub record IsBare (bus : Bus) (thread : ℕ) : Type 0 where
+  pub unheld : (row : Holder) → Contains bus.holders row → row.thread ≢ thread
+  pub register : pkru_of bus thread ≡ closed_pkru
 
--- who holds which coffer, and the thread's register
-pub record Stands (bus : Bus) (thread : ℕ) (holders : List Holder) (pkru : ℕ) : Type 0 where
-  pub holds : bus.holders ≡ holders
+-- it holds the root coffer for its command under this key, in no other row, and has this in its register
+pub record HasMapped (bus : Bus) (thread : ℕ) (command : Command) (key pkru : ℕ) : Type 0 where
+  pub is_key : IsKey key
+  pub held : Contains bus.holders (row_of thread command key)
+  pub only : (row : Holder) → Contains bus.holders row → row.thread ≡ thread → row ≡ row_of thread command key
   pub register : pkru_of bus thread ≡ pkru
 
--- nobody holds a coffer; the thread alone does, and its window is closed; its window is open
-abbrev pub IsBare : Bus → ℕ → Type 0
-IsBare bus thread = Stands bus thread [] closed_pkru
+-- the register in the window: the coffer's key alone, for stores only where the command stores
+abbrev pub open_pkru : Command → ℕ → ℕ
+open_pkru command key = only_pkru key (writes command)
 
-abbrev pub HasMapped : Bus → ℕ → Command → Type 0
-HasMapped bus thread command = Stands bus thread (row_of thread command ∷ []) closed_pkru
+-- the call has changed nothing, asked for no pages, and its reply is not settled
+pub record IsFresh (w : World) (thread : ℕ) (seat : Seat) : Type 0 where
+  pub uncommitted : seat.committed ≡ false
+  pub unasked : seat.told ≡ NotAsked
+  pub open_reply : w.verdicts thread ≡ NoPoint
 
-abbrev pub HasOpened : Bus → ℕ → Command → Type 0
-HasOpened bus thread command = Stands bus thread (row_of thread command ∷ []) (open_pkru command)
+-- its last Find named the path that its command looks for, and showed the root coffer
+pub record HasFound (seat : Seat) : Type 0 where
+  pub find : LastFind
+  pub found : seat.found ≡ Some find
+  pub named : find.path ≡ sought_path seat.command
+  pub coffer : find.coffer ≡ 1
 
--- What stands of the kernel's pages at each action of a call: the root coffer is the only one, and each of them is owned,
--- so that no coffer is given one.
-pub record HasKernel (words : List Word) : Type 0 where
-  pub alone : IsRootAlone words
-  pub size : HasPages (length words)
-  pub owned : (page : ℕ) → page < kernel_pages (pages_of words) → owner_of words page ≢ 0
-
--- a call that works for the command in the root coffer of these words
-pub record WorksFor (command : Command) (call : CallRun) (words : List Word) : Type 0 where
-  pub command_is : call.command ≡ command
-  pub control : call.coffer.control.at ≡ control_of words
-  pub dir : call.coffer.dir.at ≡ dir_of words
-  pub kernel : HasKernel words
-
--- the phase is one of a call with this command
-abbrev pub IsPhaseOf : Command → Phase → Type 0
-IsPhaseOf command Idle = ⊥
-IsPhaseOf command (Runs running loaded drained asked) = running ≡ command
-IsPhaseOf command (Committed reply) = Unit {0}
+-- the reply is right, and the thread's part of the coffer is given back but for its map
+abbrev pub MayTell : World → ℕ → Seat → Reply → Type 0
+MayTell w thread seat reply = IsAtRest w × MayReply (coffers_at w) seat (w.verdicts thread) reply
 
 -- what is known at a stage, with the answer that comes next
-abbrev pub SessionStageKnows : ℕ → Command → Stage → Answer → Bus → List Member → Phase → Option ℕ → Type 0
-SessionStageKnows thread command stage.Begin answer bus tree phase consulted =
-    IsBare bus thread × IsGrounded bus.words tree × (phase ≡ Runs command false false NotYet)
-SessionStageKnows thread command stage.Finding answer bus tree phase consulted =
-    IsBare bus thread × IsGrounded bus.words tree × (phase ≡ Runs command false false NotYet) × (consulted ≡ Some 1) × (answer ≡ Kern (Found (found_at (consulted_path command)) None))
-SessionStageKnows thread command stage.Mapping answer bus tree phase consulted =
-    HasMapped bus thread command × IsGrounded bus.words tree × (phase ≡ Runs command false false NotYet) × (consulted ≡ Some 1) × (answer ≡ Kern (Mapped (root_mapped bus.words 1)))
-SessionStageKnows thread command (stage.Working call) answer bus tree phase consulted =
-    HasOpened bus thread command × WorksFor command call bus.words × CallKnows call answer bus.words tree phase × IsPhaseOf command phase × (consulted ≡ Some 1)
-SessionStageKnows thread command (stage.Closing reply) answer bus tree phase consulted =
-    HasMapped bus thread command × IsGrounded bus.words tree × MayReply tree phase reply × (answer ≡ Done)
-SessionStageKnows thread command (stage.Ending reply) answer bus tree phase consulted =
-    IsBare bus thread × IsGrounded bus.words tree × MayReply tree phase reply
-SessionStageKnows thread command stage.Over answer bus tree phase consulted = ⊥
+abbrev pub StageKnows : ℕ → Command → Stage → Answer → World → Seat → Type 0
+StageKnows thread command stage.Begin answer w seat = IsBare w.base.machine.bus thread × IsAtRest w × IsFresh w thread seat
+StageKnows thread command stage.Finding answer w seat =
+    IsBare w.base.machine.bus thread × IsAtRest w × IsFresh w thread seat × HasFound seat × (answer ≡ Kern (Found (found_at (sought_path command)) None))
+StageKnows thread command stage.Mapping answer w seat =
+    (key : ℕ) × HasMapped w.base.machine.bus thread command key closed_pkru × IsAtRest w × IsFresh w thread seat × HasFound seat × (answer ≡ Kern (Mapped (root_mapped w.base.machine.bus.words key)))
+StageKnows thread command (stage.Working op) answer w seat =
+    (key : ℕ) × HasMapped w.base.machine.bus thread command key (open_pkru command key) × HasFound seat × (op.command ≡ command) × OpKnows op answer (scene_of w thread seat)
+StageKnows thread command (stage.Closing reply) answer w seat =
+    (key : ℕ) × HasMapped w.base.machine.bus thread command key closed_pkru × MayTell w thread seat reply
+StageKnows thread command (stage.Ending reply) answer w seat = IsBare w.base.machine.bus thread × MayTell w thread seat reply
+StageKnows thread command stage.Over answer w seat = ⊥
 
--- the thread was started, has a register, and the command is one that can be given
-pub record Sits (thread : ℕ) (command : Command) (w : World) : Type 0 where
-  pub lives : ThreadWasStarted w.machine.bus thread
-  pub register : thread < length w.machine.bus.pkrus
+-- the thread lives and has a register, its running call is one of this command, which can be given, and its user is uid 0
+pub record Sits (thread : ℕ) (command : Command) (w : World) (seat : Seat) : Type 0 where
+  pub lives : ThreadLives w.base.machine thread
+  pub register : thread < length w.base.machine.bus.pkrus
   pub valid : IsCommand command
+  pub seat_is : w.base.seats thread ≡ Some seat
+  pub command_is : seat.command ≡ command
+  pub cred : seat.cred ≡ root_cred
 
-abbrev pub KnowsAt : ℕ → Command → Stage → Answer → World → Type 0
-KnowsAt thread command stage answer w =
-    Sits thread command w × SessionStageKnows thread command stage answer w.machine.bus w.tree (w.phases thread) (w.consulted thread)
+pub record KnowsAt (thread : ℕ) (command : Command) (stage : Stage) (answer : Answer) (w : World) : Type 0 where
+  pub rooted : IsRooted w
+  pub denoted : IsDenoted w
+  pub seat : Seat
+  pub sits : Sits thread command w seat
+  pub knows : StageKnows thread command stage answer w seat
 
 -- what a session knows with the answer that it gets next
 abbrev pub SessionKnows : Session → Answer → World → Type 0
 SessionKnows s answer w = KnowsAt s.thread s.command s.stage answer w
 
--- the session's thread and command
-abbrev pub thread_of : Session → ℕ
-thread_of s = s.thread
+-- An action that was answered so, at a tick: it is legal and keeps our discipline, the words denote the tree afterwards,
+-- no window is open that may not be, and then this is known.
+pub record SessionGoes (Known : Answer → World → Type 0) (thread now : ℕ) (mark : Mark) (action : Action) (w : World) (answer : Answer) : Type 0 where
+  pub legal : IsLegal w (entry.Act thread now mark action answer)
+  pub disciplined : IsDisciplined w (entry.Act thread now mark action answer)
+  pub denoted : IsDenoted (stepped w (entry.Act thread now mark action answer))
+  pub windowed : IsWindowed w → IsWindowed (stepped w (entry.Act thread now mark action answer))
+  pub knows : Known answer (stepped w (entry.Act thread now mark action answer))
 
-abbrev pub command_of : Session → Command
-command_of s = s.command
+-- An action that a session gives: it looks for no coffer while a key is open, maps the one that it found last, and however
+-- it is answered, the session goes on.
+pub record SessionActs (Known : Answer → World → Type 0) (thread : ℕ) (mark : Mark) (action : Action) (w : World) : Type 0 where
+  pub shut : (now : ℕ) (answer : Answer) → FindsShut w (entry.Act thread now mark action answer)
+  pub found : (now : ℕ) (answer : Answer) → MapsFound w (entry.Act thread now mark action answer)
+  pub goes : (now : ℕ) (answer : Answer) → Answers w.base.machine.bus thread now action answer → SessionGoes Known thread now mark action w answer
 
--- what is known at the begin of a session: nobody holds a coffer, the thread's register is closed, and its call is new
-pub record BeginsAt (thread : ℕ) (command : Command) (w : World) : Type 0 where
-  pub sits : Sits thread command w
-  pub bare : IsBare w.machine.bus thread
-  pub grounded : IsGrounded w.machine.bus.words w.tree
-  pub phase_is : w.phases thread ≡ Runs command false false NotYet
-
--- an action that was answered so, at tick 0 as all actions of calls: it is legal, the words denote the tree afterwards, and
--- then this is known
-pub record SessionGoes (Known : Answer → World → Type 0) (thread : ℕ) (mark : Mark) (action : Action) (w : World) (answer : Answer) : Type 0 where
-  pub legal : IsLegal w (entry.Act thread 0 mark action answer)
-  pub denotes : Denotes (stepped w (entry.Act thread 0 mark action answer)).machine.bus.words (stepped w (entry.Act thread 0 mark action answer)).tree
-  pub knows : Known answer (stepped w (entry.Act thread 0 mark action answer))
-
--- An action that a session gives: it has the command's mark, is built, looks for no coffer while a key is open, and
--- however it is answered, the session goes on.
-pub record SessionActs (Known : Answer → World → Type 0) (thread : ℕ) (command : Command) (mark : Mark) (action : Action) (w : World) : Type 0 where
-  pub marked : mark ≡ mark_of (dir_of w.machine.bus.words) command action
-  pub built : IsAction action
-  pub shut : (answer : Answer) → FindsShut w (entry.Act thread 0 mark action answer)
-  pub goes : (answer : Answer) → Answers w.machine.bus thread 0 action answer → SessionGoes Known thread mark action w answer
-
--- a reply that a session gives: it is legal, and nothing is left open or mapped
+-- a reply that a session gives: it is right, and nothing is left open or mapped
 pub record SessionEnds (thread : ℕ) (reply : Reply) (w : World) : Type 0 where
   pub legal : IsLegal w (entry.Reply thread reply)
-  pub bare : IsBare w.machine.bus thread
-  pub grounded : IsGrounded w.machine.bus.words w.tree
+  pub bare : IsBare w.base.machine.bus thread
+  pub rests : IsAtRest w
 
 -- what a session that has come to a stage gives
 abbrev pub StageGives : ℕ → Command → Stage → SessionStep → World → Type 0
-StageGives thread command after (step.Act action mark) w = SessionActs (KnowsAt thread command after) thread command mark action w
+StageGives thread command after (step.Act action mark) w = SessionActs (KnowsAt thread command after) thread mark action w
 StageGives thread command after (step.Over reply) w = SessionEnds thread reply w
 
 -- the step that leads from a stage to another, where this was known with the answer
@@ -185,7 +163,7 @@ abbrev pub RunsOn : Stage → SessionStep → Type 0
 RunsOn after (step.Act action mark) = is_over after ≡ false
 RunsOn after (step.Over reply) = Unit {0}
 
--- an action of a session is one that the machine takes
+-- an action of a session is one that the machine takes, and has its mark
 abbrev pub GivesAction : SessionStep → Type 0
-GivesAction (step.Act action mark) = IsAction action
+GivesAction (step.Act action mark) = IsAction action × IsMarked mark action
 GivesAction (step.Over reply) = Unit {0}

@@ -1,7 +1,7 @@
 // The first step of a session. Whole sessions are shown by scripts.
 use crate::{Session, SessionStep};
 use std::alloc::AllocError;
-use tr_types::{Action, Command, Kcall, Mark, Path};
+use tr_types::{Action, Command, Cred, Kcall, Mark, Path};
 
 fn is_find(step: &SessionStep) -> bool {
     match step {
@@ -15,7 +15,7 @@ fn is_find(step: &SessionStep) -> bool {
 #[test]
 fn the_first_step_is_a_look(rt: HostRuntime) -> Result<(), AllocError> {
     let path = Path::new(Vec::from_slice(rt.alloc(), b"/")?);
-    let mut session = Session::begin(0, Command::Stat { path });
+    let mut session = Session::begin(0, Cred::new(0, 0), Command::Stat { path });
     let step = session.next(rt.alloc(), None, 0)?;
     assert!(rt; is_find(&step));
     Ok(())

@@ -1,11 +1,5 @@
 -- what the actions of a call are for
 pub mod Marks
--- what the words of an image denote
-pub mod Denotes
--- one state for a whole trace
-pub mod World
--- windows and confinement
-pub mod Windows
 -- the kernel's rows, of a root coffer that is the only one
 pub mod RootCoffer
 -- one state for a whole trace, in two halves

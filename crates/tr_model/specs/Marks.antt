@@ -1,25 +1,15 @@
 -- What the actions of a call are for. A register PKRU that enables a key other than 0 is marked `Open`, and the register
--- with which a thread starts `Close`. Every store by which a change comes about is marked `Commit`: of a `create` it is
--- the store to the head of the name's bucket. All other actions that a call makes now are `Plain`.
-use Rattle.std.specs.Prelude.{ℕ, List, [], ◌∷◌, Bool, false, filter, drop, if◌then◌else◌, ◌==◌}
+-- with which a thread starts `Close`. A change comes about by the store that is marked `Commit`. All other actions that
+-- calls make now are `Plain`.
+use Rattle.std.specs.Prelude.{◌≡◌, ◌⊎◌, ℕ, List, [], ◌∷◌, filter, if◌then◌else◌, ◌==◌}
 use Rattle.std.specs.List.{range_with_len}
-use Rattle.zo_layout.specs.Layout.{bucket_head, bucket_of}
 use Rattle.tr_types.specs.declared.action.Action.{Action}
 use Rattle.tr_types.specs.declared.action.Action.TheVariants.{Store, Pkru}
-use Rattle.tr_types.specs.declared.command.Command.{Command}
-use Rattle.tr_types.specs.declared.command.Command.TheVariants.{Create, Stat}
 use Rattle.tr_types.specs.declared.entry.Mark.{Mark}
 use Rattle.tr_types.specs.declared.entry.Mark.TheVariants.{Plain, Open, Close, Commit}
+use Rattle.tr_types.specs.declared.entry.Entry.{Entry}
+use Rattle.tr_types.specs.declared.entry.Entry.TheVariants as entry
 use Rattle.kern_model.specs.Rights.{may_read, closed_pkru}
-
--- the name in the root directory that a path of one name has: what stands after its `/`
-abbrev pub name_in_root : List ℕ → List ℕ
-name_in_root path = drop 1 path
-
--- the word by whose store a command's change comes about, in the directory at an address
-abbrev pub is_commit_word : ℕ → Command → ℕ → Bool
-is_commit_word dir (Create path mode) addr = addr == bucket_head dir (bucket_of (name_in_root path))
-is_commit_word dir (Stat path) addr = false
 
 -- the keys other than 0 that a register enables
 abbrev pub keys_enabled : ℕ → List ℕ
@@ -32,7 +22,14 @@ mark_by (key ∷ keys) = Open
 abbrev pub pkru_mark : ℕ → Mark
 pkru_mark pkru = if pkru == closed_pkru then Close else mark_by (keys_enabled pkru)
 
-abbrev pub mark_of : ℕ → Command → Action → Mark
-mark_of dir command (Store addr word) = if is_commit_word dir command addr then Commit else Plain
-mark_of dir command (Pkru pkru) = pkru_mark pkru
-mark_of dir command action = Plain
+-- The action has its mark. Which of a call's stores is its commit is told by what users see: the words denote it before and
+-- after.
+abbrev pub IsMarked : Mark → Action → Type 0
+IsMarked mark (Pkru pkru) = mark ≡ pkru_mark pkru
+IsMarked mark (Store addr word) = (mark ≡ Plain) ⊎ (mark ≡ Commit)
+IsMarked mark action = mark ≡ Plain
+
+-- the same of an entry
+abbrev pub IsMarkedEntry : Entry → Type 0
+IsMarkedEntry (entry.Act thread now mark action answer) = IsMarked mark action
+IsMarkedEntry e = Unit {0}

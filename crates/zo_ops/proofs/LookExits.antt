@@ -1,40 +1,36 @@
--- What comes after a step of a look-up or of a count.
-use Rattle.std.proofs.Common.{◌≡◌, ◌≢◌, ◌⊎◌, ℕ, ◌^◌, ◌<◌, ◌≤◌, List, [], ◌∷◌, length, map, drop, Contains, true, false, refl, sym, ap, subst, ◌∙◌, arith, inl, inr, eqb, T}
-use Rattle.std.proofs.Math.Dec.{eqb→eq}
-use Rattle.std.specs.List.{list_any, AllByRecursion, IsDistinct}
-use Rattle.std.proofs.lemmas.Bool.{ne_eqb}
-use Rattle.std.proofs.lemmas.Map.Steps.{length-le_from_distinct_below}
-use Rattle.std.proofs.lemmas.Map.Views.{Contains-from_any}
-use Rattle.pm_words.specs.Word.{Word}
-use Rattle.zo_model.specs.Tree.{Member}
-use Rattle.tr_model.specs.Denotes.{dir_of}
-use Rattle.tr_model.specs.World.{Phase, Runs, NotYet}
+-- What a call gives while it looks for its name, and where it has found it or not.
+use Rattle.std.proofs.Common.{◌≡◌, ℕ, ◌+◌, ◌*◌, ◌<◌, List, [], ◌∷◌, length, drop, codes, true, Some, None, refl, sym, ap, subst, ◌∙◌, arith, inl, inr, eq-eqb}
+use Rattle.zo_layout.specs.Layout.{page_at, page_kind, file_map, pool_head}
 use Rattle.tr_types.specs.declared.action.Action.TheVariants.{Load}
 use Rattle.tr_types.specs.declared.action.Answer.{Answer}
+use Rattle.tr_types.specs.declared.action.Answer.TheVariants.{Word as WordIs}
 use Rattle.tr_types.specs.declared.command.Command.{Command}
 use Rattle.tr_types.specs.declared.command.Command.TheVariants.{Create, Stat}
-use Rattle.tr_types.specs.declared.command.Kind.TheVariants.{Dir}
-use Rattle.tr_types.specs.declared.command.Reply.TheVariants.{Info}
-use Rattle.zo_ops.specs.declared.call.Coffer.{Coffer}
-use Rattle.zo_ops.specs.declared.call.Next.{Next}
-use Rattle.zo_ops.specs.declared.call.Next.TheVariants as next
-use Rattle.zo_ops.specs.declared.call.Stage.TheVariants as stage
-use Rattle.zo_ops.specs.declared.count.Asked.TheVariants.{Nothing as CountNothing}
-use Rattle.zo_ops.specs.declared.count.Count.{Count}
-use Rattle.zo_ops.specs.declared.count.CountStep.{CountStep}
-use Rattle.zo_ops.specs.declared.count.CountStep.TheVariants as count_step
-use Rattle.zo_ops.specs.declared.lookup.Asked.TheVariants.{Nothing as LookNothing}
-use Rattle.zo_ops.specs.declared.lookup.Lookup.{Lookup}
-use Rattle.zo_ops.specs.declared.lookup.LookStep.{LookStep}
-use Rattle.zo_ops.specs.declared.lookup.LookStep.TheVariants as look_step
+use Rattle.tr_types.specs.declared.command.Kind.TheVariants.{File}
+use Rattle.tr_types.specs.declared.command.Reply.TheVariants.{Info, Exists, NotFound}
+use Rattle.tr_types.specs.declared.entry.Mark.TheVariants.{Plain}
+use Rattle.tr_types.specs.declared.kernel_call.Mapped.{Mapped}
+use Rattle.zo_model.specs.Alone.{root_cred}
+use Rattle.zo_model.specs.Answers.{path_of, answer, told}
+use Rattle.zo_model.specs.CofferWords.{IsDir}
 use Rattle.zo_model.specs.Commands.{IsCommand, IsPathOfOne}
-use Rattle.zo_ops.specs.Laid.{Role, FileAt, IsBuilt, AreDistinct}
-use Rattle.zo_ops.specs.Looking.{LookKnows, LookGives, CountKnows, CountGives}
-use Rattle.zo_ops.specs.Knows.{AfterKnowing, StageKnows, IsRunning, IsRunningFrom, FindKnows, MissKnows, IsCreate, IsStat, name_of}
-use Rattle.zo_ops.proofs.LoadSteps.{ground_denotes, load_gives}
-use Rattle.zo_ops.proofs.ReplySteps.{counted_gives}
-use Rattle.zo_ops.proofs.Places.{place_near}
-use Rattle.zo_ops.proofs.Members.{contains_here, contains_there, contains_cases, contains_none}
+use Rattle.zo_model.specs.Seats.{drained_after}
+use Rattle.zo_model.specs.Steps.{Scene, ActGives, OverGives, pool_of}
+use Rattle.zo_model.specs.Tree.{Member, Node, FileOf, node_at}
+use Rattle.zo_plan.specs.declared.link.Addr.{Addr}
+use Rattle.zo_plan.specs.declared.place.Place.{Place}
+use Rattle.zo_hash_dir.specs.declared.lookup.Lookup.{Lookup}
+use Rattle.zo_hash_dir.specs.declared.lookup.LookStep.{LookStep}
+use Rattle.zo_hash_dir.specs.declared.lookup.LookStep.TheVariants as look_step
+use Rattle.zo_hash_dir.specs.declared.lookup.Purpose.{Purpose}
+use Rattle.zo_hash_dir.specs.declared.lookup.Purpose.TheVariants.{Making}
+use Rattle.zo_hash_dir.specs.Looking.{Knows as LookKnows, Gives as LookGives, GivesFor, Aim, Keeps, IsMissingAt, aim_of}
+use Rattle.zo_hash_dir.specs.Scene.{Scene as Seen, IsShown, CanMake}
+use Rattle.zo_ops.specs.declared.op.Stage.TheVariants as stage
+use Rattle.zo_ops.specs.Knows.{Stands, BeginKnows, IsLookFor, LookingKnows, Finds, StageKnows, FoundKnows, MissingKnows, IsCreate, IsStat, name_of, purpose_of, seen}
+use Rattle.zo_ops.proofs.AnswerLaws.{alone, create_exists, stat_missing, stat_file}
+use Rattle.zo_ops.proofs.StepLaws.{denoted, loaded, load_gives, ground_loaded, told_gives}
+use Rattle.zo_ops.proofs.SeenLaws.{is_shown, can_make, read_word, control_word, stands_at, misses_at, file_member, file_word}
 
 -- what kind of command it is
 pub is_create : (command : Command) (path : List ℕ) (mode : ℕ) → command ≡ Create path mode → IsCreate command
@@ -43,114 +39,162 @@ is_create command path mode is = subst IsCreate (sym is) tt
 pub is_stat : (command : Command) (path : List ℕ) → command ≡ Stat path → IsStat command
 is_stat command path is = subst IsStat (sym is) tt
 
--- a command's name has at most 255 bytes
-short_of_one : (path : List ℕ) → IsPathOfOne path → length (drop 1 path) ≤ 255
-short_of_one [] one = absurd one
-short_of_one (byte ∷ name) one = one.1.short
+one_name : (command : Command) → IsCommand command → 0 < length (name_of command) → IsPathOfOne (path_of command)
+one_name (Create path mode) can some = can.0
+one_name (Stat path) (inl root) some =
+    let none : 0 < length (drop 1 (codes "/")) = subst (λ (p : List ℕ). 0 < length (drop 1 p)) root some in
+    absurd (omega (arith, none))
+one_name (Stat path) (inr one) some = one
 
-pub name_short : (command : Command) → IsCommand command → length (name_of command) ≤ 255
-name_short (Create path mode) valid = short_of_one path valid.0
-name_short (Stat path) (inl root) = subst (λ (p : List ℕ). length (drop 1 p) ≤ 255) (sym root) (omega arith)
-name_short (Stat path) (inr one) = short_of_one path one
+-- a look-up that begins
+pub look_begins : (mapped : Mapped) (command : Command) (look : Lookup) (dir : ℕ) (given : Answer) (s : Scene) → BeginKnows mapped command s → dir ≡ page_at mapped.root → look.dir.at ≡ dir
+    → look.name ≡ name_of command → look.purpose ≡ purpose_of command → 0 < length (name_of command)
+    → ((seen : Seen) (first : Answer) → IsShown seen dir mapped.pages → CanMake seen dir → LookKnows look first seen) → LookingKnows mapped command look given s
+look_begins mapped command look dir given s (k, unasked) at dir_is name purpose some begins = record {
+  ground = k;
+  unasked = unasked;
+  aim = record { dir = dir_is ∙ at; name = name; some = some; purpose = purpose };
+  knows = begins (seen s k.stands) given (subst (λ a. IsShown (seen s k.stands) a mapped.pages) (sym at) (is_shown mapped command s k)) (subst (CanMake (seen s k.stands)) (sym at) (can_make mapped command s k));
+}
 
--- there are fewer files than addresses
-abbrev entry_of : FileAt → ℕ
-entry_of f = f.entry
+-- a step of a look-up
+module _ (mapped : Mapped) (command : Command) (look new : Lookup) (given : Answer) (result : LookStep) (keeps : Keeps look new) (promise : (v : Seen) → LookKnows look given v → LookGives new v result) where
+  aim_kept : IsLookFor mapped command look → IsLookFor mapped command new
+  aim_kept aim = record {
+    dir = ap (λ d. d.at) keeps.dir ∙ aim.dir;
+    name = keeps.name ∙ aim.name;
+    some = aim.some;
+    purpose = keeps.purpose ∙ aim.purpose;
+  }
 
-apart_from : (e : ℕ) (files : List FileAt) → ((g : FileAt) → Contains files g → g.entry ≢ e) → AllByRecursion (λ y. eqb e y ≡ false) (map entry_of files)
-apart_from e [] apart = tt
-apart_from e (g ∷ files) apart = (ne_eqb e g.entry (λ same. apart g (contains_here g files) (sym same)), apart_from e files (λ f c. apart f (contains_there g files f c)))
+  abbrev ours : Aim
+  ours = record { dir = page_at mapped.root; name = name_of command; purpose = purpose_of command; visits = new.left }
 
-distinct_entries : (files : List FileAt) → AreDistinct files → IsDistinct eqb (map entry_of files)
-unfolding IsDistinct
-distinct_entries [] d = tt
-distinct_entries (f ∷ files) d = (apart_from f.entry files (λ g c. (d.0 g c).1), distinct_entries files d.1)
+  aim_is : IsLookFor mapped command new → aim_of new ≡ ours
+  aim_is aim = λ i. record { dir = aim.dir i; name = aim.name i; purpose = aim.purpose i; visits = new.left }
 
-entry_among : (files : List FileAt) (e : ℕ) → Contains (map entry_of files) e → (f : FileAt) × Contains files f × (f.entry ≡ e)
-entry_among [] e c = absurd (contains_none e c)
-entry_among (f ∷ files) e c = by (contains_cases f.entry (map entry_of files) e c) (entry_among files e)
+  gave : (s : Scene) (k : LookingKnows mapped command look given s) → GivesFor new ours (seen s k.ground.stands) result
+  gave s k = subst (λ a. GivesFor new a (seen s k.ground.stands) result) (aim_is (aim_kept k.aim)) (promise (seen s k.ground.stands) k.knows)
+
+  pub look_load_gives : (addr : ℕ) → result ≡ look_step.Load addr → (s : Scene) → LookingKnows mapped command look given s → ActGives (StageKnows mapped command (stage.Looking new)) Plain (Load addr) s
+  look_load_gives addr is s k =
+      let g = subst (GivesFor new ours (seen s k.ground.stands)) is (gave s k) in
+      load_gives mapped command (stage.Looking new) addr s (read_word mapped command s k.ground addr g.0) (denoted s k.ground.stands)
+      (record { ground = ground_loaded mapped command addr s k.ground; unasked = k.unasked; aim = aim_kept k.aim; knows = g.1 })
+
+  pub look_found_knows : (place : Place) (target : ℕ) → result ≡ look_step.Found place target → (s : Scene) → LookingKnows mapped command look given s → FoundKnows target mapped command s
+  look_found_knows place target is s k =
+      let g = subst (GivesFor new ours (seen s k.ground.stands)) is (gave s k) in
+      record { ground = k.ground; unasked = k.unasked; some = k.aim.some; wanted = g.0.wanted }
+
+  pub look_missing_knows : (place : Place) → result ≡ look_step.Missing place → (s : Scene) → LookingKnows mapped command look given s → MissingKnows place mapped command s
+  look_missing_knows place is s k =
+      let g = subst (GivesFor new ours (seen s k.ground.stands)) is (gave s k) in
+      record { ground = k.ground; unasked = k.unasked; some = k.aim.some; missing = g }
+
+  pub look_not_damaged : (addr : ℕ) → result ≡ look_step.Damaged addr → (s : Scene) → LookingKnows mapped command look given s → ⊥
+  look_not_damaged addr is s k = subst (GivesFor new ours (seen s k.ground.stands)) is (gave s k)
+
+-- The name stands.
+
+pub exists_answer : (command : Command) (tree : List Member) (node : Node) → IsCreate command → IsCommand command → IsDir tree [] → node_at tree (name_of command ∷ []) ≡ Some node
+    → answer (alone tree) root_cred command ≡ Some (told (alone tree) Exists)
+exists_answer (Create path mode) tree node create can root stands = ap (λ m. answer (alone tree) root_cred (Create path m)) can.1 ∙ create_exists tree root path can.0 node stands
+exists_answer (Stat path) tree node create can root stands = absurd create
+
+pub exists_gives : (target : ℕ) (mapped : Mapped) (command : Command) (s : Scene) → IsCreate command → FoundKnows target mapped command s → OverGives Exists s × Stands s
+exists_gives target mapped command s create k =
+    let found = stands_at mapped command s k.ground (name_of command) target k.wanted in
+    told_gives mapped command s Exists k.ground k.unasked (record { other = refl; denied = λ d. d; cause = tt }) (exists_answer command k.ground.stands.tree (FileOf found.0) create k.ground.call.can_be k.ground.stands.alone.root found.1)
+
+-- The name doesn't stand.
+
+missing_answer : (command : Command) (tree : List Member) → IsStat command → IsCommand command → 0 < length (name_of command) → IsDir tree [] → node_at tree (name_of command ∷ []) ≡ None
+    → answer (alone tree) root_cred command ≡ Some (told (alone tree) NotFound)
+missing_answer (Create path mode) tree stat can some root none = absurd stat
+missing_answer (Stat path) tree stat can some root none = stat_missing tree root path (one_name (Stat path) can some) none
+
+pub missing_gives : (place : Place) (mapped : Mapped) (command : Command) (s : Scene) → IsStat command → MissingKnows place mapped command s → OverGives NotFound s × Stands s
+missing_gives place mapped command s stat k =
+    told_gives mapped command s NotFound k.ground k.unasked (record { other = refl; denied = λ d. d; cause = tt })
+    (missing_answer command k.ground.stands.tree stat k.ground.call.can_be k.some k.ground.stands.alone.root (misses_at mapped command s k.ground (name_of command) k.missing.end.wanted))
+
+making : (command : Command) → IsCreate command → purpose_of command ≡ Making
+making (Create path mode) create = refl
+making (Stat path) create = absurd create
+
+-- a load of the head of the pool, which shows no page
+pub pool_load_gives : (place : Place) (addr : ℕ) (mapped : Mapped) (command : Command) (s : Scene) → IsCreate command → addr ≡ pool_head (page_at mapped.control) 0 → MissingKnows place mapped command s
+    → ActGives (StageKnows mapped command (stage.Pool place)) Plain (Load addr) s
+pool_load_gives place addr mapped command s create is k =
+    let pool : addr ≡ pool_of s.coffer = is ∙ ap (λ c. pool_head (page_at c) 0) (sym k.ground.coffer.control) in
+    let empty : s.at addr ≡ 0 = ap s.at pool ∙ k.ground.stands.rests.pool 0 (omega arith) in
+    load_gives mapped command (stage.Pool place) addr s (control_word mapped command s k.ground 9 addr (omega arith) is) (denoted s k.ground.stands) (
+      record {
+        ground = ground_loaded mapped command addr s k.ground;
+        create = create;
+        missing = subst (λ (p : Purpose). IsMissingAt (seen s k.ground.stands) (page_at mapped.root) (name_of command) p place) (making command create) k.missing;
+      },
+      k.unasked,
+      shown (s.at addr) (pool_of s.coffer) pool empty,
+      ap WordIs empty,
+    )
   where
-    by : (f.entry ≡ e) ⊎ Contains (map entry_of files) e → (Contains (map entry_of files) e → (g : FileAt) × Contains files g × (g.entry ≡ e)) → (g : FileAt) × Contains (f ∷ files) g × (g.entry ≡ e)
-    by (inl same) among = (f, contains_here f files, same)
-    by (inr later) among = let g = among later in (g.0, contains_there f files g.0 g.1, g.2)
+    shown : (word head : ℕ) → addr ≡ head → word ≡ 0 → drained_after head (Load addr) (WordIs word) s.seat.drained ≡ true
+    shown word head pool empty = rw (eq-eqb addr head pool, eq-eqb word 0 empty) refl
 
-length_entries : (files : List FileAt) → length (map entry_of files) ≡ length files
-length_entries [] = refl
-length_entries (f ∷ files) = omega (arith, length_entries files)
+-- What stands in the file's words.
 
-pub few_files : (words : List Word) (roles : ℕ → Role) (files : List FileAt) → IsBuilt words roles files → length files < 2 ^ 63
-few_files words roles files built =
-    let near : (q : ℕ) → list_any (eqb q) (map entry_of files) ≡ true → q < 2 ^ 60 =
-    λ q has. let f = entry_among files q (Contains-from_any (λ x y t. eqb→eq x y (subst T (sym t) tt)) q (map entry_of files) has) in subst (λ n. n < 2 ^ 60) f.2 (place_near words roles f.0.entry built.size (built.each f.0 f.1).place) in
-    omega (arith, length_entries files, length-le_from_distinct_below (map entry_of files) (2 ^ 60) (distinct_entries files built.distinct) near)
+kind_is : (file : ℕ) (mapped : Mapped) (command : Command) (s : Scene) → Finds mapped command file s → s.at (page_kind file) ≡ 1
+kind_is file mapped command s k = ap (λ f. s.at (page_kind f)) k.file_is ∙ (file_member mapped command s k.ground (name_of command) k.bytes k.stands).shown.0
 
--- what a step of a look-up promises
-abbrev pub LookPromise : Lookup → Answer → Lookup → LookStep → List ℕ → Type 0
-LookPromise look answer after result name =
-    (words : List Word) (roles : ℕ → Role) (files : List FileAt) → IsBuilt words roles files → look.dir.at ≡ dir_of words → 0 < length name → length name ≤ 255 → LookKnows look name answer words files → LookGives after name words files result
+map_is : (file : ℕ) (mapped : Mapped) (command : Command) (s : Scene) → Finds mapped command file s → s.at (file_map file) ≡ 0
+map_is file mapped command s k = ap (λ f. s.at (file_map f)) k.file_is ∙ (file_member mapped command s k.ground (name_of command) k.bytes k.stands).shown.1.0
 
--- a call that asks for something has loaded
-pub has_asked : (Asks : Type 0) (command : Command) (phase : Phase) → IsRunningFrom Asks command phase → Asks → IsRunning command phase
-has_asked Asks command phase (loaded, drained, runs, has) asks = (drained, runs ∙ ap (λ l. Runs command l drained NotYet) (has asks))
+abbrev finds_loaded : (file addr : ℕ) (mapped : Mapped) (command : Command) (s : Scene) → Finds mapped command file s → Finds mapped command file (loaded addr s)
+finds_loaded file addr mapped command s k = record {
+  ground = ground_loaded mapped command addr s k.ground;
+  unasked = k.unasked;
+  stat = k.stat;
+  some = k.some;
+  bytes = k.bytes;
+  stands = k.stands;
+  file_is = k.file_is;
+}
 
--- a load is no other step
-abbrev IsLookLoad : LookStep → Type 0
-IsLookLoad (look_step.Load addr) = Unit {0}
-IsLookLoad (look_step.Found target from) = ⊥
-IsLookLoad (look_step.Missing head) = ⊥
-IsLookLoad (look_step.Damaged addr) = ⊥
+-- the word of the file's kind is loaded
+pub kind_load_gives : (target : ℕ) (file : Addr) (addr : ℕ) (mapped : Mapped) (command : Command) (s : Scene) → IsStat command → file.at ≡ target → addr ≡ page_kind file.at → FoundKnows target mapped command s
+    → ActGives (StageKnows mapped command (stage.Kind file)) Plain (Load addr) s
+kind_load_gives target file addr mapped command s stat link is k =
+    let found = stands_at mapped command s k.ground (name_of command) target k.wanted in
+    let page : file.at ≡ page_at (k.ground.stands.rests.denotes.page_of (name_of command ∷ [])) = link ∙ found.2 in
+    load_gives mapped command (stage.Kind file) addr s (file_word mapped command s k.ground (name_of command) found.0 0 addr found.1 (omega arith) (is ∙ page ∙ none_more _)) (denoted s k.ground.stands)
+    (finds_loaded file.at addr mapped command s (record { ground = k.ground; unasked = k.unasked; stat = stat; some = k.some; bytes = found.0; stands = found.1; file_is = page }), ap (λ a. WordIs (s.at a)) is)
+  where
+    none_more : (n : ℕ) → n ≡ n + 8 * 0
+    none_more n = omega arith
 
-abbrev IsCountLoad : CountStep → Type 0
-IsCountLoad (count_step.Load addr) = Unit {0}
-IsCountLoad (count_step.Counted names) = ⊥
-IsCountLoad (count_step.Damaged addr) = ⊥
+-- the word of its map is
+pub map_load_gives : (file : Addr) (given : Answer) (addr : ℕ) (mapped : Mapped) (command : Command) (s : Scene) → addr ≡ file_map file.at → StageKnows mapped command (stage.Kind file) given s
+    → ActGives (StageKnows mapped command (stage.Map file)) Plain (Load addr) s
+map_load_gives file given addr mapped command s is (k, word) =
+    load_gives mapped command (stage.Map file) addr s (file_word mapped command s k.ground (name_of command) k.bytes 1 addr k.stands (omega arith) (is ∙ ap file_map k.file_is)) (denoted s k.ground.stands)
+    (finds_loaded file.at addr mapped command s k, ap (λ a. WordIs (s.at a)) is)
 
-module _ (coffer : Coffer) (command : Command) (look after : Lookup) (answer : Answer) (result : LookStep) (first : ℕ) (loads : look.asked ≡ LookNothing → result ≡ look_step.Load first) (promise : LookPromise look answer after result (name_of command)) where
-  abbrev Known : List Word → List Member → Phase → Type 0
-  Known = StageKnows coffer command (stage.Looking look) answer
+pub is_kind : (file : Addr) (given : Answer) (mapped : Mapped) (command : Command) (s : Scene) → StageKnows mapped command (stage.Kind file) given s → given ≡ WordIs 1
+is_kind file given mapped command s (k, word) = word ∙ ap WordIs (kind_is file.at mapped command s k)
 
-  kept : IsCommand command → (words : List Word) (tree : List Member) (phase : Phase) → (s : Known words tree phase) → LookGives after (name_of command) words s.0.files result
-  kept valid words tree phase (k, knows, dir, some, runs) = promise words k.roles k.files k.laid.built (ap (λ d. d.at) dir ∙ k.dir) some (name_short command valid) knows
+pub is_map : (file : Addr) (given : Answer) (mapped : Mapped) (command : Command) (s : Scene) → StageKnows mapped command (stage.Map file) given s → given ≡ WordIs 0
+is_map file given mapped command s (k, word) = word ∙ ap WordIs (map_is file.at mapped command s k)
 
-  pub look_load_gives : (addr : ℕ) → after.dir ≡ look.dir → result ≡ look_step.Load addr → AfterKnowing coffer command Known (next.Act (Load addr) (stage.Looking after))
-  look_load_gives addr same is valid words tree phase (k, knows, dir, some, (loaded, drained, runs, has)) =
-      let g = subst (LookGives after (name_of command) words k.files) is (kept valid words tree phase (k, knows, dir, some, (loaded, drained, runs, has))) in
-      load_gives coffer command addr (stage.Looking after) words tree loaded drained g.0 (ground_denotes coffer words tree k) phase runs (λ p r. (k, g.1, same ∙ dir, some, (true, r.0, r.1, λ _. refl)))
+file_answer : (command : Command) (tree : List Member) (bytes : List ℕ) → IsStat command → IsCommand command → 0 < length (name_of command) → IsDir tree [] → node_at tree (name_of command ∷ []) ≡ Some (FileOf bytes) → bytes ≡ []
+    → answer (alone tree) root_cred command ≡ Some (told (alone tree) (Info File 0 0 0 438))
+file_answer (Create path mode) tree bytes stat can some root stands empty = absurd stat
+file_answer (Stat path) tree bytes stat can some root stands empty =
+    stat_file tree root path (one_name (Stat path) can some) bytes stands ∙ ap (λ (b : List ℕ). Some (told (alone tree) (Info File (length b) 0 0 438))) empty
 
-  pub look_found_gives : (target from : ℕ) (n : Next) → result ≡ look_step.Found target from → AfterKnowing coffer command (FindKnows coffer command target) n → AfterKnowing coffer command Known n
-  look_found_gives target from n is finds valid words tree phase (k, knows, dir, some, runs) =
-      let g = subst (LookGives after (name_of command) words k.files) is (kept valid words tree phase (k, knows, dir, some, runs)) in
-      finds valid words tree phase (record { ground = k; file = g.0; among = g.1; named = g.2; target_is = g.3 }, some, has_asked _ command phase runs (λ e. subst IsLookLoad (sym (loads e) ∙ is) tt))
-
-  pub look_missing_gives : (head : ℕ) (n : Next) → result ≡ look_step.Missing head → AfterKnowing coffer command (MissKnows coffer command head) n → AfterKnowing coffer command Known n
-  look_missing_gives head n is misses valid words tree phase (k, knows, dir, some, runs) =
-      let g = subst (LookGives after (name_of command) words k.files) is (kept valid words tree phase (k, knows, dir, some, runs)) in
-      misses valid words tree phase (k, g.0, g.1, some, has_asked _ command phase runs (λ e. subst IsLookLoad (sym (loads e) ∙ is) tt))
-
-  pub look_damaged_gives : (addr : ℕ) (n : Next) → result ≡ look_step.Damaged addr → AfterKnowing coffer command Known n
-  look_damaged_gives addr n is valid words tree phase s = absurd (subst (LookGives after (name_of command) words s.0.files) is (kept valid words tree phase s))
-
--- what a step of a count promises
-abbrev pub CountPromise : Count → Answer → Count → CountStep → Type 0
-CountPromise count answer after result =
-    (words : List Word) (roles : ℕ → Role) (files : List FileAt) → IsBuilt words roles files → length files < 2 ^ 63 → count.dir.at ≡ dir_of words → CountKnows count answer words files → CountGives after words files result
-
-module _ (coffer : Coffer) (command : Command) (count after : Count) (answer : Answer) (result : CountStep) (first : ℕ) (loads : count.asked ≡ CountNothing → result ≡ count_step.Load first) (promise : CountPromise count answer after result) where
-  abbrev Counted : List Word → List Member → Phase → Type 0
-  Counted = StageKnows coffer command (stage.Counting count) answer
-
-  counts : (words : List Word) (tree : List Member) (phase : Phase) → (s : Counted words tree phase) → CountGives after words s.0.files result
-  counts words tree phase (k, knows, dir, root, stat, runs) = promise words k.roles k.files k.laid.built (few_files words k.roles k.files k.laid.built) (ap (λ d. d.at) dir ∙ k.dir) knows
-
-  pub count_load_gives : (addr : ℕ) → after.dir ≡ count.dir → result ≡ count_step.Load addr → AfterKnowing coffer command Counted (next.Act (Load addr) (stage.Counting after))
-  count_load_gives addr same is valid words tree phase (k, knows, dir, root, stat, (loaded, drained, runs, has)) =
-      let g = subst (CountGives after words k.files) is (counts words tree phase (k, knows, dir, root, stat, (loaded, drained, runs, has))) in
-      load_gives coffer command addr (stage.Counting after) words tree loaded drained g.0 (ground_denotes coffer words tree k) phase runs (λ p r. (k, g.1, same ∙ dir, root, stat, (true, r.0, r.1, λ _. refl)))
-
-  pub count_over_gives : (names : ℕ) → result ≡ count_step.Counted names → AfterKnowing coffer command Counted (next.Over (Info Dir names 0 0 438))
-  count_over_gives names is valid words tree phase (k, knows, dir, root, stat, runs) =
-      let g = subst (CountGives after words k.files) is (counts words tree phase (k, knows, dir, root, stat, runs)) in
-      counted_gives coffer command names words tree phase stat root k g (has_asked _ command phase runs (λ e. subst IsCountLoad (sym (loads e) ∙ is) tt))
-
-  pub count_damaged_gives : (addr : ℕ) (n : Next) → result ≡ count_step.Damaged addr → AfterKnowing coffer command Counted n
-  count_damaged_gives addr n is valid words tree phase s = absurd (subst (CountGives after words s.0.files) is (counts words tree phase s))
+-- the file's size is known
+pub file_gives : (file : Addr) (given : Answer) (mapped : Mapped) (command : Command) (s : Scene) → StageKnows mapped command (stage.Map file) given s → OverGives (Info File 0 0 0 438) s × Stands s
+file_gives file given mapped command s (k, word) =
+    told_gives mapped command s (Info File 0 0 0 438) k.ground k.unasked (record { other = refl; denied = λ d. d; cause = tt })
+    (file_answer command k.ground.stands.tree k.bytes k.stat k.ground.call.can_be k.some k.ground.stands.alone.root k.stands (file_member mapped command s k.ground (name_of command) k.bytes k.stands).shown.1.1)

@@ -1,130 +1,134 @@
--- What comes after a step of a plan, and after an answer on the way to a plan.
-use Rattle.std.proofs.Common.{◌≡◌, ◌⊎◌, ℕ, ◌<◌, ◌≤◌, List, [], ◌∷◌, ◌++◌, length, take, get_or, Option, Some, None, refl, sym, ap, subst, ◌∙◌, arith, inl, inr}
-use Rattle.pm_words.specs.Word.{Word}
-use Rattle.zo_layout.specs.Layout.{page_at, entry_place}
-use Rattle.zo_model.specs.Tree.{Member}
-use Rattle.tr_model.specs.World.{Phase}
+-- What a call gives with a store of its plan: one that prepares keeps the tree, and the commit makes the file.
+use Rattle.std.proofs.Common.{◌≡◌, ℕ, List, [], ◌∷◌, Bool, true, false, cond, Option, Some, None, refl, sym, ap, subst, ◌∙◌}
+use Rattle.std.proofs.lemmas.Bool.{false≢true}
+use Rattle.tr_types.specs.declared.action.Action.{Action}
 use Rattle.tr_types.specs.declared.action.Action.TheVariants.{Store}
-use Rattle.tr_types.specs.declared.action.Answer.TheVariants.{Word as WordIs}
+use Rattle.tr_types.specs.declared.action.Answer.{Answer}
+use Rattle.tr_types.specs.declared.action.Answer.TheVariants.{Done}
 use Rattle.tr_types.specs.declared.command.Command.{Command}
 use Rattle.tr_types.specs.declared.command.Reply.TheVariants.{Made}
-use Rattle.zo_ops.specs.declared.call.Coffer.{Coffer}
-use Rattle.zo_ops.specs.declared.call.Next.{Next}
-use Rattle.zo_ops.specs.declared.call.Next.TheVariants as next
-use Rattle.zo_ops.specs.declared.call.Placing.TheVariants.{NextFree, FirstPage}
-use Rattle.zo_ops.specs.declared.call.Stage.TheVariants as stage
-use Rattle.zo_ops.specs.declared.link.Addr.{Addr}
-use Rattle.zo_ops.specs.declared.plan.PlanRun.{PlanRun}
-use Rattle.zo_ops.specs.declared.plan.Spot.{Spot}
-use Rattle.zo_ops.specs.declared.plan.Spot.TheVariants.{Free, Fresh}
-use Rattle.zo_ops.specs.Plans.{pair_at, free_entry_pairs, fresh_page_pairs, commit_pair}
-use Rattle.zo_model.specs.Commands.{IsCommand}
-use Rattle.zo_ops.specs.Laid.{stored_all}
-use Rattle.zo_ops.specs.Knows.{NextGives, AfterKnowing, PlacingKnows, AskKnows, FillKnows, RunKnows, Prepares, Stored, spot_pairs, spot_entry, name_of}
-use Rattle.zo_ops.proofs.PlanLemmas.{pair_at_commit, pair_at_over}
-use Rattle.std.proofs.Math.Nat.{eq-or-lt_of_le}
-use Rattle.std.proofs.lemmas.List.{get_or_append_left, length-append}
-use Rattle.std.proofs.lemmas.Option.{slice_get-get_or}
-use Rattle.zo_ops.proofs.ReplySteps.{made_gives}
-use Rattle.zo_ops.proofs.StoreSteps.{SamePlan, prepare_gives, prepare_past, commit_gives, commit_past}
+use Rattle.tr_types.specs.declared.entry.Mark.{Mark}
+use Rattle.tr_types.specs.declared.entry.Mark.TheVariants.{Plain, Commit}
+use Rattle.tr_types.specs.declared.kernel_call.Mapped.{Mapped}
+use Rattle.zo_model.specs.Legal.{Verdict, HasCause, MayReply, MayTell}
+use Rattle.zo_model.specs.Seats.{Told, is_commit}
+use Rattle.zo_model.specs.Steps.{Scene, Leaves, Goes, ActGives, OverGives, MayMark}
+use Rattle.zo_plan.specs.Runs.{Due, Running, damaged_at, step_at, run_at}
+use Rattle.zo_plan.specs.declared.run.Step.TheVariants as step
+use Rattle.zo_ops.specs.declared.op.Stage.TheVariants as stage
+use Rattle.zo_ops.specs.Acts.{IsAction}
+use Rattle.zo_ops.specs.Knows.{Stands, StageKnows, MayPut, MayPutAll, IsMade, mark_of, stored}
+use Rattle.zo_ops.proofs.StepLaws.{at_rest, denies}
 
-pub next_free_asks : (coffer : Coffer) (command : Command) (head : ℕ) (entry : Addr) (word : ℕ) (words : List Word) (tree : List Member) (phase : Phase) → PlacingKnows coffer command (NextFree head entry) (WordIs word) words tree phase → AskKnows coffer command head (Free entry word) words tree phase
-next_free_asks coffer command head entry word words tree phase (k, (rest, is), runs, answer) = (k, (rest, is, cc), runs)
+may_mark : (b : Bool) (addr word : ℕ) → MayMark (cond b Commit Plain) (Store addr word)
+may_mark true addr word = tt
+may_mark false addr word = tt
 
-pub first_page_asks : (coffer : Coffer) (command : Command) (head word : ℕ) (words : List Word) (tree : List Member) (phase : Phase) → PlacingKnows coffer command (FirstPage head) (WordIs word) words tree phase → AskKnows coffer command head (Fresh word) words tree phase
-first_page_asks coffer command head word words tree phase (k, none, runs, answer) = (k, none, runs)
+commits_of : (b : Bool) → is_commit (cond b Commit Plain) Done ≡ true → b ≡ true
+commits_of true e = refl
+commits_of false e = absurd (false≢true e)
 
--- which pair comes next
-some_is : {A : Type 0} {x y : A} → Some x ≡ Some y → x ≡ y
-some_is e = cc
+is_stored : (d : Due) (s after : Scene) → Leaves (mark_of d) (Store d.addr d.word) Done s after → after ≡ stored d s
+is_stored d s after l = λ i. record {
+  at = l.words.0 i;
+  id = l.id i;
+  coffer = l.words.1 i;
+  coffers = l.coffers i;
+  seat = l.seat i;
+  verdict = l.verdict i;
+}
 
-pair_prepares : (prepares : List (ℕ × ℕ)) (commit p : ℕ × ℕ) (made : ℕ) → made < length prepares → pair_at prepares commit made ≡ Some p → p ≡ get_or prepares made p
-pair_prepares prepares commit p made lt is =
-    let within : made < length (prepares ++ commit ∷ []) = omega (arith, length-append prepares (commit ∷ [])) in
-    some_is (sym is ∙ slice_get-get_or (prepares ++ commit ∷ []) made p within) ∙ get_or_append_left prepares (commit ∷ []) p made lt
-
-none_some : {A : Type 0} {x : A} → None ≡ Some x → ⊥
-none_some e = cc
-
--- a pair that comes next in a plan under way is a preparing one, or the commit
-data Turn (run : PlanRun) (pair : ℕ × ℕ) : Type 0 where
-  Preparing : run.made < length run.plan.prepares.items → pair ≡ get_or run.plan.prepares.items run.made pair → Turn run pair
-  Committing : run.made ≡ length run.plan.prepares.items → pair ≡ run.plan.commit → Turn run pair
-
-turn_of : (run : PlanRun) (pair : ℕ × ℕ) → run.made ≤ length run.plan.prepares.items → pair_at run.plan.prepares.items run.plan.commit run.made ≡ Some pair → Turn run pair
-turn_of run pair le is = by (eq-or-lt_of_le le)
+store_gives : (mapped : Mapped) (command : Command) (new : Running) (d : Due) (left : List Due) (s : Scene) → MayPut d s → MayPutAll left (stored d s) → new.left ≡ left
+    → ActGives (StageKnows mapped command (stage.Storing new)) (mark_of d) (Store d.addr d.word) s
+store_gives mapped command new d left s may all left_is = record {
+  reachable = (may.create, may.reached);
+  marked = may_mark d.commits d.addr d.word;
+  goes = λ given after is leaves. subst (λ (g : Answer). Goes (StageKnows mapped command (stage.Storing new)) (mark_of d) (Store d.addr d.word) g s after) (sym is) (goes_to after (subst (λ (g : Answer). Leaves (mark_of d) (Store d.addr d.word) g s after) is leaves));
+}
   where
-    by : (run.made ≡ length run.plan.prepares.items) ⊎ (run.made < length run.plan.prepares.items) → Turn run pair
-    by (inl all) = Committing all (some_is (sym is ∙ pair_at_commit run.plan.prepares.items run.plan.commit run.made all))
-    by (inr lt) = Preparing lt (pair_prepares run.plan.prepares.items run.plan.commit pair run.made lt is)
+    goes_to : (after : Scene) → Leaves (mark_of d) (Store d.addr d.word) Done s after → Goes (StageKnows mapped command (stage.Storing new)) (mark_of d) (Store d.addr d.word) Done s after
+    goes_to after leaves = subst (λ (t : Scene). Goes (StageKnows mapped command (stage.Storing new)) (mark_of d) (Store d.addr d.word) Done s t) (sym (is_stored d s after leaves)) (record {
+      legal = λ e. may.legal (commits_of d.commits e);
+      done = λ e. ap (λ (m : Mark). is_commit m Done) e;
+      denoted = may.denoted;
+      knows = (refl, subst (λ (l : List Due). MayPutAll l (stored d s)) (sym left_is) all);
+    })
 
-no_turn : (run : PlanRun) → run.made ≤ length run.plan.prepares.items → pair_at run.plan.prepares.items run.plan.commit run.made ≡ None → ⊥
-no_turn run le is = by (eq-or-lt_of_le le)
+-- A step of a run. No store is refused, so none shows damage.
+
+step_done : (given : Answer) (run : Running) → given ≡ Done → step_at (damaged_at given run.asked) run.left ≡ step_at None run.left
+step_done given run is = ap (λ g. step_at (damaged_at g run.asked) run.left) is
+
+left_done : (given : Answer) (run : Running) → given ≡ Done → run_at (damaged_at given run.asked) run.left ≡ run_at None run.left
+left_done given run is = ap (λ g. run_at (damaged_at g run.asked) run.left) is
+
+module _ (mapped : Mapped) (command : Command) (run new : Running) (given : Answer) where
+  act_by : (action : Action) (mark : Mark) (left : List Due) → step_at None left ≡ step.Act action mark → new ≡ run_at None left → (s : Scene) → MayPutAll left s → ActGives (StageKnows mapped command (stage.Storing new)) mark action s
+  act_by action mark [] is new_is s all = absurd (no_act is)
+    where
+      no_act : step.Done ≡ step.Act action mark → ⊥
+      no_act e = cc
+  act_by action mark (d ∷ left) is new_is s (may, all) =
+      let action_is : Store d.addr d.word ≡ action = action_of is in
+      let mark_is : mark_of d ≡ mark = mark_from is in
+      subst (λ (a : Action). ActGives (StageKnows mapped command (stage.Storing new)) mark a s) action_is
+      (subst (λ (m : Mark). ActGives (StageKnows mapped command (stage.Storing new)) m (Store d.addr d.word) s) mark_is
+      (store_gives mapped command new d left s may all (ap (λ (r : Running). r.left) new_is)))
+    where
+      action_of : step.Act (Store d.addr d.word) (mark_of d) ≡ step.Act action mark → Store d.addr d.word ≡ action
+      action_of e = cc
+
+      mark_from : step.Act (Store d.addr d.word) (mark_of d) ≡ step.Act action mark → mark_of d ≡ mark
+      mark_from e = cc
+
+  pub run_act_gives : (action : Action) (mark : Mark) → step_at (damaged_at given run.asked) run.left ≡ step.Act action mark → new ≡ run_at (damaged_at given run.asked) run.left
+      → (s : Scene) → StageKnows mapped command (stage.Storing run) given s → ActGives (StageKnows mapped command (stage.Storing new)) mark action s
+  run_act_gives action mark is new_is s (done, all) = act_by action mark run.left (sym (step_done given run done) ∙ is) (new_is ∙ left_done given run done) s all
+
+  done_by : (left : List Due) → step_at None left ≡ step.Done → (s : Scene) → MayPutAll left s → IsMade s
+  done_by [] is s made = made
+  done_by (d ∷ left) is s all = absurd (no_done is)
+    where
+      no_done : step.Act (Store d.addr d.word) (mark_of d) ≡ step.Done → ⊥
+      no_done e = cc
+
+  pub run_done_gives : step_at (damaged_at given run.asked) run.left ≡ step.Done → (s : Scene) → StageKnows mapped command (stage.Storing run) given s → OverGives Made s × Stands s
+  run_done_gives is s (done, all) =
+      let made = done_by run.left (sym (step_done given run done) ∙ is) s all in
+      (record { legal = legal s made; rests = at_rest s made.stands }, made.stands)
+    where
+      legal : (s : Scene) → IsMade s → MayReply s.coffers s.seat s.verdict Made
+      legal s made = record {
+        denied = λ right path e. absurd (false≢true (ap denies (sym made.stays ∙ e)));
+        cause = subst (λ (t : Told). HasCause s.seat t Made) (sym made.told) tt;
+        settled = subst (λ (v : Verdict). MayTell s.coffers s.seat v s.seat.told Made) (sym made.verdict) refl;
+      }
+
+  whole_by : (left : List Due) (addr : ℕ) → step_at None left ≡ step.Damaged addr → ⊥
+  whole_by [] addr e = cc
+  whole_by (d ∷ left) addr e = cc
+
+  pub run_not_damaged : (addr : ℕ) → step_at (damaged_at given run.asked) run.left ≡ step.Damaged addr → (s : Scene) → StageKnows mapped command (stage.Storing run) given s → ⊥
+  run_not_damaged addr is s (done, all) = whole_by run.left addr (sym (step_done given run done) ∙ is)
+
+-- a run stores, and whatever it is answered
+acts_by : (mapped : Mapped) (action : Action) (mark : Mark) (damage : Option ℕ) (left : List Due) → step_at damage left ≡ step.Act action mark → IsAction mapped action × MayMark mark action
+acts_by mapped action mark (Some addr) left is = absurd (no_act is)
   where
-    by : (run.made ≡ length run.plan.prepares.items) ⊎ (run.made < length run.plan.prepares.items) → ⊥
-    by (inl all) = none_some (sym is ∙ pair_at_commit run.plan.prepares.items run.plan.commit run.made all)
-    by (inr lt) =
-        let within : run.made < length (run.plan.prepares.items ++ run.plan.commit ∷ []) = omega (arith, length-append run.plan.prepares.items (run.plan.commit ∷ [])) in
-        none_some (sym is ∙ slice_get-get_or (run.plan.prepares.items ++ run.plan.commit ∷ []) run.made run.plan.commit within)
+    no_act : step.Damaged addr ≡ step.Act action mark → ⊥
+    no_act e = cc
+acts_by mapped action mark None [] is = absurd (no_act is)
+  where
+    no_act : step.Done ≡ step.Act action mark → ⊥
+    no_act e = cc
+acts_by mapped action mark None (d ∷ left) is =
+    subst (λ (a : Action). IsAction mapped a × MayMark mark a) (action_of is) (tt, subst (λ (m : Mark). MayMark m (Store d.addr d.word)) (mark_from is) (may_mark d.commits d.addr d.word))
+  where
+    action_of : step.Act (Store d.addr d.word) (mark_of d) ≡ step.Act action mark → Store d.addr d.word ≡ action
+    action_of e = cc
 
--- a plan that is done gives no pair
-done_none : (coffer : Coffer) (run : PlanRun) (words : List Word) (tree : List Member) (phase : Phase) (pair : ℕ × ℕ) → Stored coffer run words tree phase → pair_at run.plan.prepares.items run.plan.commit run.made ≡ Some pair → ⊥
-done_none coffer run words tree phase pair s is = none_some (sym (pair_at_over run.plan.prepares.items run.plan.commit run.made (omega (arith, s.made))) ∙ is)
+    mark_from : step.Act (Store d.addr d.word) (mark_of d) ≡ step.Act action mark → mark_of d ≡ mark
+    mark_from e = cc
 
-module _ (coffer : Coffer) (command : Command) (run after : PlanRun) (same : run.made ≤ length run.plan.prepares.items → SamePlan run after) where
-  abbrev next_pair : Option (ℕ × ℕ)
-  next_pair = pair_at run.plan.prepares.items run.plan.commit run.made
-
-  -- no store comes that lies below the control page
-  past_control : (pair : ℕ × ℕ) (words : List Word) (tree : List Member) (phase : Phase) → IsCommand command → Prepares coffer command run words tree phase → Turn run pair → coffer.control.at ≤ pair.0
-  past_control pair words tree phase valid k (Preparing lt is) = prepare_past coffer command run after 0 words tree phase valid k (same k.made) pair lt is
-  past_control pair words tree phase valid k (Committing all is) = subst (λ (p : ℕ × ℕ). coffer.control.at ≤ p.0) (sym is) (commit_past coffer command run after 0 words tree phase valid k (same k.made))
-
-  pub low_gives : (pair : ℕ × ℕ) (n : Next) → next_pair ≡ Some pair → pair.0 < coffer.control.at → AfterKnowing coffer command (RunKnows coffer command run) n
-  low_gives pair n is low valid words tree phase (inl k) = absurd (omega (arith, past_control pair words tree phase valid k (turn_of run pair k.made is)))
-  low_gives pair n is low valid words tree phase (inr s) = absurd (done_none coffer run words tree phase pair s is)
-
-  stored_gives : (pair : ℕ × ℕ) (at : ℕ) (words : List Word) (tree : List Member) (phase : Phase) → IsCommand command → Prepares coffer command run words tree phase → Turn run pair → NextGives coffer command (next.Act (Store pair.0 pair.1) (stage.Storing after at)) words tree phase
-  stored_gives pair at words tree phase valid k (Preparing lt is) = prepare_gives coffer command run after at words tree phase valid k (same k.made) pair lt is
-  stored_gives pair at words tree phase valid k (Committing all is) = subst (λ (p : ℕ × ℕ). NextGives coffer command (next.Act (Store p.0 p.1) (stage.Storing after at)) words tree phase) (sym is) (commit_gives coffer command run after at words tree phase valid k (same k.made) all)
-
-  pub store_gives : (pair : ℕ × ℕ) (at : ℕ) → next_pair ≡ Some pair → AfterKnowing coffer command (RunKnows coffer command run) (next.Act (Store pair.0 pair.1) (stage.Storing after at))
-  store_gives pair at is valid words tree phase (inl k) = stored_gives pair at words tree phase valid k (turn_of run pair k.made is)
-  store_gives pair at is valid words tree phase (inr s) = absurd (done_none coffer run words tree phase pair s is)
-
-  pub none_gives : next_pair ≡ None → AfterKnowing coffer command (RunKnows coffer command run) (next.Over Made)
-  none_gives is valid words tree phase (inl k) = absurd (no_turn run k.made is)
-  none_gives is valid words tree phase (inr s) = made_gives coffer command run words tree phase s
-
--- a plan that begins
-pub plan_begins : (coffer : Coffer) (command : Command) (head : ℕ) (spot : Spot) (pages : List ℕ) (run : PlanRun) (dir : ℕ) → dir ≡ coffer.dir.at → run.made ≡ 0 → run.plan.prepares.items ≡ spot_pairs dir head (name_of command) spot pages → run.plan.commit ≡ commit_pair dir (name_of command) (spot_entry spot pages) → (words : List Word) (tree : List Member) (phase : Phase) → FillKnows coffer command head spot pages words tree phase → RunKnows coffer command run words tree phase
-plan_begins coffer command head spot pages run dir at none pairs commit words tree phase (k, is, drawn, runs) = inl (record {
-  base = words;
-  head = head;
-  spot = spot;
-  pages = pages;
-  links = k;
-  spot_is = is;
-  drawn = drawn;
-  pairs = pairs ∙ ap (λ d. spot_pairs d head (name_of command) spot pages) (at ∙ k.ground.dir);
-  commit = commit ∙ ap (λ d. commit_pair d (name_of command) (spot_entry spot pages)) (at ∙ k.ground.dir);
-  made = omega arith;
-  words_are = ap (λ n. stored_all (take n run.plan.prepares.items) words) (sym none);
-  phase_is = runs;
-})
-
--- the stores and the entry of a spot, by the drawn pages one by one
-pub free_pairs : (pages : List ℕ) (dir head : ℕ) (name : List ℕ) (entry : Addr) (nxt d : ℕ) → 1 ≤ length pages → length pages < 2 → spot_pairs dir head name (Free entry nxt) pages ≡ free_entry_pairs dir head name entry.at nxt (page_at (get_or pages 0 d))
-free_pairs [] dir head name entry nxt d least most = absurd (omega arith)
-free_pairs (file ∷ []) dir head name entry nxt d least most = refl
-free_pairs (file ∷ other ∷ pages) dir head name entry nxt d least most = absurd (omega arith)
-
-pub fresh_pairs : (pages : List ℕ) (dir head : ℕ) (name : List ℕ) (first d : ℕ) → 2 ≤ length pages → length pages < 3 → spot_pairs dir head name (Fresh first) pages ≡ fresh_page_pairs dir head name (page_at (get_or pages 0 d)) first (page_at (get_or pages 1 d))
-fresh_pairs [] dir head name first d least most = absurd (omega arith)
-fresh_pairs (page ∷ []) dir head name first d least most = absurd (omega arith)
-fresh_pairs (page ∷ file ∷ []) dir head name first d least most = refl
-fresh_pairs (page ∷ file ∷ other ∷ pages) dir head name first d least most = absurd (omega arith)
-
-pub fresh_entry : (pages : List ℕ) (first d : ℕ) → 2 ≤ length pages → spot_entry (Fresh first) pages ≡ entry_place (page_at (get_or pages 0 d)) 0
-fresh_entry [] first d least = absurd (omega arith)
-fresh_entry (page ∷ pages) first d least = refl
+pub run_acts : (mapped : Mapped) (given : Answer) (run : Running) (action : Action) (mark : Mark) → step_at (damaged_at given run.asked) run.left ≡ step.Act action mark → IsAction mapped action × MayMark mark action
+run_acts mapped given run action mark is = acts_by mapped action mark (damaged_at given run.asked) run.left is

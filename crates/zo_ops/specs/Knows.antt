@@ -1,53 +1,43 @@
 -- What a call knows between two of its actions, stage by stage, and what it gives with each.
-use Rattle.std.specs.Prelude.{◌≡◌, ◌≢◌, ◌⊎◌, ℕ, ◌+◌, ◌<◌, ◌≤◌, List, [], ◌∷◌, length, take, codes, Contains, Bool, true, false}
-use Rattle.pm_words.specs.Word.{Word}
-use Rattle.zo_layout.specs.Layout.{page_at, bucket_head, bucket_of, entry_place, first_free_entry, file_map}
-use Rattle.tr_model.specs.Marks.{mark_of, name_in_root}
-use Rattle.zo_model.specs.Tree.{Member}
-use Rattle.kern_model.specs.KernelView.{value}
-use Rattle.tr_model.specs.Denotes.{control_of, dir_of, Denotes}
-use Rattle.tr_model.specs.World.{Phase, Runs, NotYet, Given, Refused, Committed, phase_after, changed, pool_of, IsLegalAct, MayReply}
-use Rattle.tr_types.specs.declared.action.Action.{Action}
+use Rattle.std.specs.Prelude.{◌≡◌, ℕ, ◌+◌, ◌<◌, ◌≤◌, ◌^◌, List, [], ◌∷◌, length, drop, codes, Contains, true, false, Some, if◌then◌else◌, ◌==◌}
+use Rattle.zo_layout.specs.Layout.{page_at, page_kind, file_map}
+use Rattle.tr_types.specs.declared.action.Action.TheVariants.{Store}
 use Rattle.tr_types.specs.declared.action.Answer.{Answer}
 use Rattle.tr_types.specs.declared.action.Answer.TheVariants.{Word as WordIs, Done, Kern}
 use Rattle.tr_types.specs.declared.command.Command.{Command}
 use Rattle.tr_types.specs.declared.command.Command.TheVariants.{Create, Stat}
-use Rattle.tr_types.specs.declared.command.Reply.{Reply}
-use Rattle.tr_types.specs.declared.command.Reply.TheVariants.{Made}
+use Rattle.tr_types.specs.declared.command.Reply.TheVariants.{Made, Exists, NoSpace}
 use Rattle.tr_types.specs.declared.entry.Mark.{Mark}
+use Rattle.tr_types.specs.declared.entry.Mark.TheVariants.{Plain, Commit}
 use Rattle.tr_types.specs.declared.kernel_call.KernAnswer.{KernAnswer}
 use Rattle.tr_types.specs.declared.kernel_call.KernAnswer.TheVariants.{Pages, NoPages}
-use Rattle.zo_ops.specs.declared.call.Coffer.{Coffer}
-use Rattle.zo_ops.specs.declared.call.CallRun.{CallRun}
-use Rattle.zo_ops.specs.declared.call.CallStep.{CallStep}
-use Rattle.zo_ops.specs.declared.call.CallStep.TheVariants as step
-use Rattle.zo_ops.specs.declared.call.Next.{Next}
-use Rattle.zo_ops.specs.declared.call.Next.TheVariants as next
-use Rattle.zo_ops.specs.declared.call.Placing.{Placing}
-use Rattle.zo_ops.specs.declared.call.Placing.TheVariants.{FreeEntry, NextFree, FirstPage, Pool}
-use Rattle.zo_ops.specs.declared.call.Stage.{Stage}
-use Rattle.zo_ops.specs.declared.call.Stage.TheVariants as stage
-use Rattle.zo_ops.specs.declared.call.Telling.{Telling}
-use Rattle.zo_ops.specs.declared.call.Telling.TheVariants as telling
-use Rattle.zo_ops.specs.declared.count.Asked.TheVariants.{Nothing as CountNothing}
-use Rattle.zo_ops.specs.declared.lookup.Asked.TheVariants.{Nothing as LookNothing}
-use Rattle.zo_ops.specs.declared.plan.PlanRun.{PlanRun}
-use Rattle.zo_ops.specs.declared.plan.Spot.{Spot}
-use Rattle.zo_ops.specs.declared.plan.Spot.TheVariants.{Free, Fresh}
+use Rattle.tr_types.specs.declared.kernel_call.Mapped.{Mapped}
+use Rattle.zo_model.specs.Alone.{IsAlone, root_cred}
+use Rattle.zo_model.specs.Answers.{path_of, answer, told as answered_so}
+use Rattle.zo_model.specs.CofferWords.{Rests, wanted}
 use Rattle.zo_model.specs.Commands.{IsCommand}
-use Rattle.zo_ops.specs.Laid.{Role, FileAt, tree_of, IsLaid, IsFresh, stored_all}
-use Rattle.zo_ops.specs.Permitted.{Answers, Leaves}
-use Rattle.zo_ops.specs.Reach.{IsReachable}
-use Rattle.zo_ops.specs.Looking.{LookKnows, CountKnows}
-use Rattle.zo_ops.specs.Plans.{free_entry_pairs, fresh_page_pairs, commit_pair}
-
-abbrev pub path_of : Command → List ℕ
-path_of (Create path mode) = path
-path_of (Stat path) = path
+use Rattle.zo_model.specs.Legal.{NoPoint, Fixed, MayCommit, moved_to, verdict_after}
+use Rattle.zo_model.specs.Seats.{NotAsked, Given, Refused, seat_after, is_commit}
+use Rattle.zo_model.specs.Steps.{Scene, IsCofferWord, AreGiven, HasDrawn, IsDenoted, ActGives, OverGives, MayStore, put, pool_of}
+use Rattle.zo_model.specs.Tree.{Member, FileOf, node_at}
+use Rattle.zo_plan.specs.declared.place.Place.{Place}
+use Rattle.zo_plan.specs.Runs.{Due}
+use Rattle.zo_hash_dir.specs.declared.list.ListRun.{ListRun}
+use Rattle.zo_hash_dir.specs.declared.lookup.Lookup.{Lookup}
+use Rattle.zo_hash_dir.specs.declared.lookup.Purpose.{Purpose}
+use Rattle.zo_hash_dir.specs.declared.lookup.Purpose.TheVariants.{Reading, Making}
+use Rattle.zo_hash_dir.specs.Counting.{ListKnows}
+use Rattle.zo_hash_dir.specs.Looking.{Knows as LookKnows, IsMissingAt}
+use Rattle.zo_hash_dir.specs.Scene.{Scene as Seen}
+use Rattle.zo_ops.specs.declared.op.OpRun.{OpRun}
+use Rattle.zo_ops.specs.declared.op.OpStep.{OpStep}
+use Rattle.zo_ops.specs.declared.op.OpStep.TheVariants as step
+use Rattle.zo_ops.specs.declared.op.Stage.{Stage}
+use Rattle.zo_ops.specs.declared.op.Stage.TheVariants as stage
 
 -- the name that a command's path has in the root directory; none for `/`
 abbrev pub name_of : Command → List ℕ
-name_of command = name_in_root (path_of command)
+name_of command = drop 1 (path_of command)
 
 abbrev pub IsCreate : Command → Type 0
 IsCreate (Create path mode) = Unit {0}
@@ -57,194 +47,207 @@ abbrev pub IsStat : Command → Type 0
 IsStat (Create path mode) = ⊥
 IsStat (Stat path) = Unit {0}
 
--- The ground of a call: the files and free entries that the words have, and that the tree is the files'.
-pub record Ground (coffer : Coffer) (words : List Word) (tree : List Member) : Type 0 where
-  pub roles : ℕ → Role
-  pub files : List FileAt
-  pub frees : List ℕ
-  pub laid : IsLaid words roles files frees
-  pub tree_is : tree ≡ tree_of files
-  pub control : coffer.control.at ≡ control_of words
-  pub dir : coffer.dir.at ≡ dir_of words
+-- The coffer is the one that the kernel has mapped so. It has at most so many pages, none of them page 0, and its control
+-- page is one of them.
+pub record IsMapped (mapped : Mapped) (s : Scene) : Type 0 where
+  pub id : s.id ≡ mapped.id
+  pub control : s.coffer.control ≡ mapped.control
+  pub root : s.coffer.root ≡ mapped.root
+  pub few : length s.coffer.pages ≤ mapped.pages
+  pub control_among : Contains s.coffer.pages s.coffer.control
+  pub each : (page : ℕ) → Contains s.coffer.pages page → (0 < page) × (page_at page < 2 ^ 60)
 
--- no file has the name
-abbrev pub IsMissing : List FileAt → List ℕ → Type 0
-IsMissing files name = (f : FileAt) → Contains files f → f.name ≢ name
+-- the call is this command's, of a caller with uid 0 and gid 0
+pub record IsCallOf (command : Command) (s : Scene) : Type 0 where
+  pub command_is : s.seat.command ≡ command
+  pub can_be : IsCommand command
+  pub cred : s.seat.cred ≡ root_cred
 
--- the call runs, has loaded a word and asked for no pages, and has or hasn't seen its pool empty
-abbrev pub IsRunning : Command → Phase → Type 0
-IsRunning command phase = (drained : Bool) × (phase ≡ Runs command true drained NotYet)
+-- how a call finds the coffer, and how it leaves it
+pub record Stands (s : Scene) : Type 0 where
+  pub tree : List Member
+  pub alone : IsAlone s.coffers s.coffer tree
+  pub rests : Rests s.at s.coffer tree
 
--- the same of a call that may not have loaded yet; where `Asks`, it has
-abbrev pub IsRunningFrom : Type 0 → Command → Phase → Type 0
-IsRunningFrom Asks command phase = (loaded drained : Bool) × (phase ≡ Runs command loaded drained NotYet) × (Asks → loaded ≡ true)
+-- The ground of a call that has changed nothing yet.
+pub record Ground (mapped : Mapped) (command : Command) (s : Scene) : Type 0 where
+  pub stands : Stands s
+  pub call : IsCallOf command s
+  pub coffer : IsMapped mapped s
+  pub uncommitted : s.seat.committed ≡ false
 
--- where the new entry is to stand, of the free entries that there are
-abbrev pub IsSpot : List Word → List ℕ → Spot → Type 0
-IsSpot words frees (Free entry next) = (rest : List ℕ) × (frees ≡ entry.at ∷ rest) × (next ≡ value words entry.at)
-IsSpot words frees (Fresh first) = frees ≡ []
+-- the call has asked for no pages, and its reply is not settled
+abbrev pub IsUnasked : Scene → Type 0
+IsUnasked s = (s.seat.told ≡ NotAsked) × (s.verdict ≡ NoPoint)
 
--- a name that isn't there is to be linked into its bucket, whose first entry is `head`
-pub record Links (coffer : Coffer) (command : Command) (head : ℕ) (words : List Word) (tree : List Member) : Type 0 where
-  pub ground : Ground coffer words tree
+-- what a call knows that begins
+abbrev pub BeginKnows : Mapped → Command → Scene → Type 0
+BeginKnows mapped command s = Ground mapped command s × IsUnasked s
+
+-- the root directory's words, and the targets that it is to show
+abbrev pub seen : (s : Scene) → Stands s → Seen
+seen s k = record { at = s.at; pages = s.coffer.pages; want = wanted k.rests.denotes.page_of s.coffer k.tree [] }
+
+abbrev pub purpose_of : Command → Purpose
+purpose_of (Create path mode) = Making
+purpose_of (Stat path) = Reading
+
+-- the look-up is for the command's name in the root directory
+pub record IsLookFor (mapped : Mapped) (command : Command) (look : Lookup) : Type 0 where
+  pub dir : look.dir.at ≡ page_at mapped.root
+  pub name : look.name ≡ name_of command
+  pub some : 0 < length (name_of command)
+  pub purpose : look.purpose ≡ purpose_of command
+
+pub record LookingKnows (mapped : Mapped) (command : Command) (look : Lookup) (answer : Answer) (s : Scene) : Type 0 where
+  pub ground : Ground mapped command s
+  pub unasked : IsUnasked s
+  pub aim : IsLookFor mapped command look
+  pub knows : LookKnows look answer (seen s ground.stands)
+
+-- the names of the root directory are counted, for a look at it
+pub record CountingKnows (mapped : Mapped) (command : Command) (count : ListRun) (answer : Answer) (s : Scene) : Type 0 where
+  pub ground : Ground mapped command s
+  pub unasked : IsUnasked s
+  pub stat : IsStat command
+  pub root : path_of command ≡ codes "/"
+  pub dir : count.dir.at ≡ page_at mapped.root
+  pub knows : ListKnows count answer (seen s ground.stands)
+
+-- a file of the name was found, and this is the address of its page
+pub record Finds (mapped : Mapped) (command : Command) (file : ℕ) (s : Scene) : Type 0 where
+  pub ground : Ground mapped command s
+  pub unasked : IsUnasked s
+  pub stat : IsStat command
+  pub some : 0 < length (name_of command)
+  pub bytes : List ℕ
+  pub stands : node_at ground.stands.tree (name_of command ∷ []) ≡ Some (FileOf bytes)
+  pub file_is : file ≡ page_at (ground.stands.rests.denotes.page_of (name_of command ∷ []))
+
+-- a new name is to be linked in the root directory, at this place
+pub record Lacks (mapped : Mapped) (command : Command) (place : Place) (s : Scene) : Type 0 where
+  pub ground : Ground mapped command s
   pub create : IsCreate command
-  pub missing : IsMissing ground.files (name_of command)
-  pub head_is : head ≡ value words (bucket_head (dir_of words) (bucket_of (name_of command)))
+  pub missing : IsMissingAt (seen s ground.stands) (page_at mapped.root) (name_of command) Making place
 
--- a file of the name was found, and this is its page
-pub record Finds (coffer : Coffer) (command : Command) (target : ℕ) (words : List Word) (tree : List Member) : Type 0 where
-  pub ground : Ground coffer words tree
-  pub file : FileAt
-  pub among : Contains ground.files file
-  pub named : file.name ≡ name_of command
-  pub target_is : target ≡ page_at file.page
+-- how many pages a new file takes, whose name is linked at this place
+abbrev pub pages_for : Place → ℕ
+pages_for place = (if place.free == 0 then 1 else 0) + 1
 
--- what is known with the answer to a look at a file
-abbrev pub TellingKnows : Coffer → Command → Telling → Answer → List Word → List Member → Type 0
-TellingKnows coffer command (telling.Kind target) answer words tree = Finds coffer command target.at words tree × (answer ≡ WordIs (value words target.at))
-TellingKnows coffer command (telling.Map target) answer words tree = Finds coffer command target.at words tree × (answer ≡ WordIs (value words (file_map target.at)))
+-- The pages are drawn: `base` is the scene before.
+pub record Drew (mapped : Mapped) (command : Command) (place : Place) (pages : List ℕ) (s : Scene) : Type 0 where
+  pub base : Scene
+  pub lacks : Lacks mapped command place base
+  pub given : AreGiven base.coffer (pages_for place) pages
+  pub drawn : HasDrawn pages base s
+  pub call : IsCallOf command s
+  pub coffers : s.coffers ≡ base.coffers
+  pub uncommitted : s.seat.committed ≡ false
+  pub told : s.seat.told ≡ Given
 
--- what is known with the answer to a look for a place
-abbrev pub PlacingKnows : Coffer → Command → Placing → Answer → List Word → List Member → Phase → Type 0
-PlacingKnows coffer command (FreeEntry head) answer words tree phase =
-    Links coffer command head words tree × IsRunning command phase × (answer ≡ WordIs (value words (first_free_entry coffer.dir.at)))
-PlacingKnows coffer command (NextFree head entry) answer words tree phase =
-    (k : Links coffer command head words tree) × ((rest : List ℕ) × (k.ground.frees ≡ entry.at ∷ rest)) × IsRunning command phase × (answer ≡ WordIs (value words entry.at))
-PlacingKnows coffer command (FirstPage head) answer words tree phase =
-    (k : Links coffer command head words tree) × (k.ground.frees ≡ []) × IsRunning command phase × ((first : ℕ) × (answer ≡ WordIs first))
-PlacingKnows coffer command (Pool head spot) answer words tree phase =
-    (k : Links coffer command head words tree) × IsSpot words k.ground.frees spot × (phase ≡ Runs command true true NotYet) × (answer ≡ WordIs 0)
-
--- the pages that a spot takes, each the coffer's now and still blank
-abbrev pub AreDrawn : List Word → (ℕ → Role) → Spot → List ℕ → Type 0
-AreDrawn words roles (Free entry next) pages = (file : ℕ) × (pages ≡ file ∷ []) × IsFresh words roles file
-AreDrawn words roles (Fresh first) pages = (page file : ℕ) × (pages ≡ page ∷ file ∷ []) × IsFresh words roles page × IsFresh words roles file × (page ≢ file)
-
-abbrev pub spot_pages : Spot → ℕ
-spot_pages (Free entry next) = 1
-spot_pages (Fresh first) = 2
+-- no page is: the kernel has refused as many as were asked for
+pub record IsShort (mapped : Mapped) (command : Command) (place : Place) (asked free : ℕ) (s : Scene) : Type 0 where
+  pub lacks : Lacks mapped command place s
+  pub asked_is : asked ≡ pages_for place
+  pub told : s.seat.told ≡ Refused asked free true
+  pub verdict : s.verdict ≡ Fixed (NoSpace asked free)
 
 -- what is known with the kernel's answer
-abbrev pub DrawnKnows : Coffer → Command → ℕ → Spot → KernAnswer → List Word → List Member → Phase → Type 0
-DrawnKnows coffer command head spot (Pages pages) words tree phase =
-    (k : Links coffer command head words tree) × IsSpot words k.ground.frees spot × AreDrawn words k.ground.roles spot pages × (phase ≡ Runs command true true Given)
-DrawnKnows coffer command head spot (NoPages asked free) words tree phase =
-    Links coffer command head words tree × (asked ≡ spot_pages spot) × (phase ≡ Runs command true true (Refused (record { asked = asked; free = free })))
-DrawnKnows coffer command head spot answer words tree phase = ⊥
+abbrev pub DrawnKnows : Mapped → Command → Place → KernAnswer → Scene → Type 0
+DrawnKnows mapped command place (Pages pages) s = Drew mapped command place pages s
+DrawnKnows mapped command place (NoPages asked free) s = IsShort mapped command place asked free s
+DrawnKnows mapped command place answer s = ⊥
 
-abbrev pub DrawingKnows : Coffer → Command → ℕ → Spot → Answer → List Word → List Member → Phase → Type 0
-DrawingKnows coffer command head spot (Kern answer) words tree phase = DrawnKnows coffer command head spot answer words tree phase
-DrawingKnows coffer command head spot answer words tree phase = ⊥
+abbrev pub DrawingKnows : Mapped → Command → Place → Answer → Scene → Type 0
+DrawingKnows mapped command place (Kern answer) s = DrawnKnows mapped command place answer s
+DrawingKnows mapped command place answer s = ⊥
 
--- the stores that make a file at a spot in the drawn pages, and the new entry's address
-abbrev pub spot_pairs : ℕ → ℕ → List ℕ → Spot → List ℕ → List (ℕ × ℕ)
-spot_pairs dir head name (Free entry next) (file ∷ pages) = free_entry_pairs dir head name entry.at next (page_at file)
-spot_pairs dir head name (Fresh first) (page ∷ file ∷ pages) = fresh_page_pairs dir head name (page_at page) first (page_at file)
-spot_pairs dir head name spot pages = []
+-- the mark of a store, and the scene that it leaves
 
-abbrev pub spot_entry : Spot → List ℕ → ℕ
-spot_entry (Free entry next) pages = entry.at
-spot_entry (Fresh first) (page ∷ pages) = entry_place (page_at page) 0
-spot_entry (Fresh first) [] = 0
+abbrev pub mark_of : Due → Mark
+mark_of d = if d.commits then Commit else Plain
 
--- a plan whose preparing stores are made as far as `run` says: the words are those before them, with these stores
-pub record Prepares (coffer : Coffer) (command : Command) (run : PlanRun) (words : List Word) (tree : List Member) (phase : Phase) : Type 0 where
-  pub base : List Word
-  pub head : ℕ
-  pub spot : Spot
-  pub pages : List ℕ
-  pub links : Links coffer command head base tree
-  pub spot_is : IsSpot base links.ground.frees spot
-  pub drawn : AreDrawn base links.ground.roles spot pages
-  pub pairs : run.plan.prepares.items ≡ spot_pairs (dir_of base) head (name_of command) spot pages
-  pub commit : run.plan.commit ≡ commit_pair (dir_of base) (name_of command) (spot_entry spot pages)
-  pub made : run.made ≤ length run.plan.prepares.items
-  pub words_are : words ≡ stored_all (take run.made run.plan.prepares.items) base
-  pub phase_is : phase ≡ Runs command true true Given
+abbrev pub stored : Due → Scene → Scene
+stored d s = record {
+  at = put s.at d.addr d.word;
+  id = s.id;
+  coffer = s.coffer;
+  coffers = if is_commit (mark_of d) Done then moved_to (answer s.coffers s.seat.cred s.seat.command) s.coffers else s.coffers;
+  seat = seat_after (pool_of s.coffer) (mark_of d) (Store d.addr d.word) Done s.seat;
+  verdict = verdict_after (mark_of d) Done s.coffers s.seat s.verdict;
+}
 
--- a plan that is done
-pub record Stored (coffer : Coffer) (run : PlanRun) (words : List Word) (tree : List Member) (phase : Phase) : Type 0 where
-  pub made : run.made ≡ length run.plan.prepares.items + 1
-  pub ground : Ground coffer words tree
-  pub phase_is : phase ≡ Committed Made
+-- the file is made, and would not be made again
+pub record IsMade (s : Scene) : Type 0 where
+  pub stands : Stands s
+  pub committed : s.seat.committed ≡ true
+  pub told : s.seat.told ≡ Given
+  pub stays : answer s.coffers s.seat.cred s.seat.command ≡ Some (answered_so s.coffers Exists)
+  pub verdict : s.verdict ≡ Fixed Made
 
-abbrev pub RunKnows : Coffer → Command → PlanRun → List Word → List Member → Phase → Type 0
-RunKnows coffer command run words tree phase = Prepares coffer command run words tree phase ⊎ Stored coffer run words tree phase
+-- a store that may be made: it goes to the coffer, a commit is right, and the words denote the tree then
+pub record MayPut (d : Due) (s : Scene) : Type 0 where
+  pub create : MayStore s.seat.command
+  pub reached : IsCofferWord s.coffer d.addr
+  pub legal : d.commits ≡ true → MayCommit s.coffers s.seat (Store d.addr d.word)
+  pub denoted : IsDenoted (stored d s)
+
+-- the stores may be made one after the other, and then the file is made
+abbrev pub MayPutAll : List Due → Scene → Type 0
+MayPutAll [] s = IsMade s
+MayPutAll (d ∷ left) s = MayPut d s × MayPutAll left (stored d s)
 
 -- what a call knows that is at this stage, with the answer that it gets next
-abbrev pub StageKnows : Coffer → Command → Stage → Answer → List Word → List Member → Phase → Type 0
-StageKnows coffer command stage.Begin answer words tree phase = Ground coffer words tree × (phase ≡ Runs command false false NotYet)
-StageKnows coffer command (stage.Looking look) answer words tree phase =
-    (k : Ground coffer words tree) × LookKnows look (name_of command) answer words k.files × (look.dir ≡ coffer.dir) × (0 < length (name_of command)) × IsRunningFrom (look.asked ≢ LookNothing) command phase
-StageKnows coffer command (stage.Counting count) answer words tree phase =
-    (k : Ground coffer words tree) × CountKnows count answer words k.files × (count.dir ≡ coffer.dir) × (path_of command ≡ codes "/") × IsStat command × IsRunningFrom (count.asked ≢ CountNothing) command phase
-StageKnows coffer command (stage.Telling telling) answer words tree phase =
-    TellingKnows coffer command telling answer words tree × IsStat command × (0 < length (name_of command)) × IsRunning command phase
-StageKnows coffer command (stage.Placing placing) answer words tree phase = PlacingKnows coffer command placing answer words tree phase
-StageKnows coffer command (stage.Drawing head spot) answer words tree phase = DrawingKnows coffer command head spot answer words tree phase
-StageKnows coffer command (stage.Storing run at) answer words tree phase = (answer ≡ Done) × RunKnows coffer command run words tree phase
-StageKnows coffer command stage.Over answer words tree phase = ⊥
+abbrev pub StageKnows : Mapped → Command → Stage → Answer → Scene → Type 0
+StageKnows mapped command (stage.Looking look) given s = LookingKnows mapped command look given s
+StageKnows mapped command (stage.Counting count) given s = CountingKnows mapped command count given s
+StageKnows mapped command (stage.Kind file) given s = Finds mapped command file.at s × (given ≡ WordIs (s.at (page_kind file.at)))
+StageKnows mapped command (stage.Map file) given s = Finds mapped command file.at s × (given ≡ WordIs (s.at (file_map file.at)))
+StageKnows mapped command (stage.Pool place) given s =
+    Lacks mapped command place s × IsUnasked s × (s.seat.drained ≡ true) × (given ≡ WordIs 0)
+StageKnows mapped command (stage.Drawing place) given s = DrawingKnows mapped command place given s
+StageKnows mapped command (stage.Storing run) given s = (given ≡ Done) × MayPutAll run.left s
+StageKnows mapped command stage.Over given s = ⊥
+
+-- where a call begins at this stage, all is known that this stage needs
+abbrev pub BeginsAt : Mapped → Command → Stage → Type 0
+BeginsAt mapped command stage = (first : Answer) (s : Scene) → BeginKnows mapped command s → StageKnows mapped command stage first s
 
 -- what a call knows with the answer that it gets next
-abbrev pub CallKnows : CallRun → Answer → List Word → List Member → Phase → Type 0
-CallKnows call answer words tree phase = StageKnows call.coffer call.command call.stage answer words tree phase
+abbrev pub OpKnows : OpRun → Answer → Scene → Type 0
+OpKnows op given s = StageKnows op.mapped op.command op.stage given s
 
--- an action that was answered so and left these words: it is legal, they denote the tree afterwards, and then this is known
-pub record Goes (Known : Answer → List Word → List Member → Phase → Type 0) (mark : Mark) (action : Action) (words new : List Word) (tree : List Member) (phase : Phase) (answer : Answer) : Type 0 where
-  pub legal : IsLegalAct tree phase mark action answer
-  pub denotes : Denotes new (changed mark answer tree phase)
-  pub knows : Known answer new (changed mark answer tree phase) (phase_after (pool_of words) tree mark action answer phase)
+-- What a call gives with an action, after which it is at this stage, and with its reply.
+abbrev pub Gives : Mapped → Command → Stage → OpStep → Scene → Type 0
+Gives mapped command later (step.Act action mark) s = ActGives (StageKnows mapped command later) mark action s
+Gives mapped command later (step.Over reply) s = OverGives reply s × Stands s
 
--- an action that a call gives: it stays in the coffer's pages, and however it is answered, the call goes on
-pub record ActGives (Known : Answer → List Word → List Member → Phase → Type 0) (command : Command) (mark : Mark) (action : Action) (words : List Word) (tree : List Member) (phase : Phase) : Type 0 where
-  pub reachable : IsReachable command words action
-  pub goes : (answer : Answer) (new : List Word) → Answers words action answer → Leaves action answer words new → Goes Known mark action words new tree phase answer
+-- what it gives where it knew what its stage asked for with the answer
+abbrev pub StepsFrom : OpRun → Answer → OpRun → OpStep → Type 0
+StepsFrom old given new step = (s : Scene) → OpKnows old given s → Gives new.mapped new.command new.stage step s
 
--- a reply that a call gives is legal, and leaves the ground for the next call
-abbrev pub ReplyGives : Coffer → Reply → List Word → List Member → Phase → Type 0
-ReplyGives coffer reply words tree phase = MayReply tree phase reply × Ground coffer words tree
+-- the same within a step, where this was known of the scene
+abbrev pub After : OpRun → (Mapped → Command → Scene → Type 0) → OpRun → OpStep → Type 0
+After old Known new step = (s : Scene) → Known old.mapped old.command s → Gives old.mapped old.command new.stage step s
 
-abbrev pub NextGives : Coffer → Command → Next → List Word → List Member → Phase → Type 0
-NextGives coffer command (next.Act action stage) words tree phase = ActGives (StageKnows coffer command stage) command (mark_of coffer.dir.at command action) action words tree phase
-NextGives coffer command (next.Over reply) words tree phase = ReplyGives coffer reply words tree phase
+-- What is known where a name was found, with its target, and where none was, with the place for it; and where the pool has
+-- shown no page.
+pub record FoundKnows (target : ℕ) (mapped : Mapped) (command : Command) (s : Scene) : Type 0 where
+  pub ground : Ground mapped command s
+  pub unasked : IsUnasked s
+  pub some : 0 < length (name_of command)
+  pub wanted : (seen s ground.stands).want (name_of command) ≡ Some target
 
-abbrev pub StepGives : CallRun → CallStep → List Word → List Member → Phase → Type 0
-StepGives call (step.Act mark action) words tree phase = ActGives (CallKnows call) call.command mark action words tree phase
-StepGives call (step.Over reply) words tree phase = ReplyGives call.coffer reply words tree phase
+pub record MissingKnows (place : Place) (mapped : Mapped) (command : Command) (s : Scene) : Type 0 where
+  pub ground : Ground mapped command s
+  pub unasked : IsUnasked s
+  pub some : 0 < length (name_of command)
+  pub missing : IsMissingAt (seen s ground.stands) (page_at mapped.root) (name_of command) (purpose_of command) place
 
--- what comes after an answer, where this was known with it
-abbrev pub AfterKnowing : Coffer → Command → (List Word → List Member → Phase → Type 0) → Next → Type 0
-AfterKnowing coffer command Known n = IsCommand command → (words : List Word) (tree : List Member) (phase : Phase) → Known words tree phase → NextGives coffer command n words tree phase
+abbrev pub PoolKnows : Place → Mapped → Command → Scene → Type 0
+PoolKnows place mapped command s = Lacks mapped command place s × IsUnasked s × (s.seat.drained ≡ true)
 
--- What is known at the begin of a call; where a file was found, or none; where the first free entry is known, where a
--- spot is chosen, where the pool has shown no page, and where pages are drawn.
-abbrev pub BeginKnows : Coffer → Command → List Word → List Member → Phase → Type 0
-BeginKnows coffer command words tree phase = Ground coffer words tree × (phase ≡ Runs command false false NotYet)
-
-abbrev pub FindKnows : Coffer → Command → ℕ → List Word → List Member → Phase → Type 0
-FindKnows coffer command target words tree phase = Finds coffer command target words tree × (0 < length (name_of command)) × IsRunning command phase
-
-abbrev pub MissKnows : Coffer → Command → ℕ → List Word → List Member → Phase → Type 0
-MissKnows coffer command head words tree phase =
-    (k : Ground coffer words tree) × IsMissing k.files (name_of command) × (head ≡ value words (bucket_head (dir_of words) (bucket_of (name_of command)))) × (0 < length (name_of command)) × IsRunning command phase
-
-abbrev pub PlaceKnows : Coffer → Command → ℕ → ℕ → List Word → List Member → Phase → Type 0
-PlaceKnows coffer command head word words tree phase =
-    Links coffer command head words tree × IsRunning command phase × (word ≡ value words (first_free_entry coffer.dir.at))
-
-abbrev pub AskKnows : Coffer → Command → ℕ → Spot → List Word → List Member → Phase → Type 0
-AskKnows coffer command head spot words tree phase =
-    (k : Links coffer command head words tree) × IsSpot words k.ground.frees spot × IsRunning command phase
-
-abbrev pub PoolKnows : Coffer → Command → ℕ → Spot → List Word → List Member → Phase → Type 0
-PoolKnows coffer command head spot words tree phase =
-    (k : Links coffer command head words tree) × IsSpot words k.ground.frees spot × (phase ≡ Runs command true true NotYet)
-
-abbrev pub FillKnows : Coffer → Command → ℕ → Spot → List ℕ → List Word → List Member → Phase → Type 0
-FillKnows coffer command head spot pages words tree phase =
-    (k : Links coffer command head words tree) × IsSpot words k.ground.frees spot × AreDrawn words k.ground.roles spot pages × (phase ≡ Runs command true true Given)
-
--- a step that a call gives where it knew what its stage asked for with the answer
-abbrev pub StepsFrom : CallRun → Answer → CallRun → CallStep → Type 0
-StepsFrom old answer new step =
-    IsCommand old.command → (words : List Word) (tree : List Member) (phase : Phase) → CallKnows old answer words tree phase → StepGives new step words tree phase
+-- the coffer and the command stay
+pub record IsSameCall (old new : OpRun) : Type 0 where
+  pub mapped : new.mapped ≡ old.mapped
+  pub command : new.command ≡ old.command

@@ -1,13 +1,6 @@
-//! One command in the root coffer: a step machine that gives one action at a time and is told the answer.
+//! One command in a mapped coffer: a step machine that gives one action at a time and is told the answer.
 #![tactic(auto)]
 
-mod call;
-mod count;
-mod letters;
-mod link;
-mod lookup;
-mod mark;
-mod plan;
+mod op;
 
-pub use call::{CallRun, CallStep, Coffer};
-pub use link::Addr;
+pub use op::{OpRun, OpStep};

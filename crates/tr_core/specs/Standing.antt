@@ -1,0 +1,65 @@
+-- How a core stands between two calls: its machine is that of its trace, each call that is under way waits with its next
+-- step ready, and all other threads hold nothing. As long as calls don't cross, one is under way at most.
+use Rattle.std.specs.Prelude.{◌≡◌, ℕ, List, [], Option, Some, None, false}
+use Rattle.bus_model.specs.Machine.{Bus, Machine, ThreadWasStarted, HasRegisters}
+use Rattle.bus_machine.specs.View.{MachineView}
+use Rattle.tr_types.specs.declared.action.Answer.{Answer}
+use Rattle.tr_types.specs.declared.entry.Entry.{Entry}
+use Rattle.tr_types.specs.declared.entry.Mark.{Mark}
+use Rattle.tr_types.specs.declared.entry.Mark.TheVariants.{Plain}
+use Rattle.tr_types.specs.declared.permission.Cred.{Cred}
+use Rattle.zo_model.specs.Alone.{root_cred}
+use Rattle.tr_model.specs.OneWindow.{IsWindowed}
+use Rattle.tr_model.specs.Worlds.{World, IsDenoted, cred_of}
+use Rattle.tr_dispatch.specs.Rooted.{IsRooted, IsAtRest}
+use Rattle.tr_dispatch.specs.Sessions.{IsBare, KnowsAt, LeadsTo, RunsOn, GivesAction}
+use Rattle.tr_dispatch.specs.declared.session.SessionStep.{SessionStep}
+use Rattle.tr_dispatch.specs.declared.session.SessionStep.TheVariants as step
+use Rattle.tr_dispatch.specs.declared.session.Stage.{Stage}
+use Rattle.tr_core.specs.declared.calls.Waiting.{Waiting}
+use Rattle.tr_core.specs.Traces.{IsTraceOf, world_after}
+
+-- the mark of a step
+abbrev pub mark_of : SessionStep → Mark
+mark_of (step.Act action mark) = mark
+mark_of (step.Over reply) = Plain
+
+-- that of a thread's next step, where it has a call
+abbrev pub due_of : Option Waiting → Option Mark
+due_of None = None
+due_of (Some waiting) = Some (mark_of waiting.next)
+
+-- A call whose next step is ready: its session gave this step where it knew what its stage asked for, and that still stands.
+pub record IsReady (w : World) (thread : ℕ) (waiting : Waiting) : Type 0 where
+  pub thread_is : waiting.session.thread ≡ thread
+  pub before : Stage
+  pub told : Answer
+  pub knows : KnowsAt thread waiting.session.command before told w
+  pub leads : LeadsTo thread waiting.session.command before told waiting.session.stage waiting.next
+  pub runs : RunsOn waiting.session.stage waiting.next
+  pub gives : GivesAction waiting.next
+
+-- how a thread stands
+abbrev pub StandsAs : World → ℕ → Option Waiting → Type 0
+StandsAs w thread None = (w.base.seats thread ≡ None) × IsBare w.base.machine.bus thread
+StandsAs w thread (Some waiting) = IsReady w thread waiting
+
+-- no tick has passed, and no process has ended, since no event does either
+pub record IsTimeless (m : Machine) : Type 0 where
+  pub clock : m.clock ≡ 0
+  pub latest : m.latest ≡ 0
+  pub ended : m.ended ≡ []
+
+pub record Stands (opening : List ℕ) (trace : List Entry) (m : MachineView) (calls : ℕ → Option Waiting) : Type 0 where
+  pub works : m.failed ≡ false
+  pub bus : m.bus ≡ (world_after opening trace).base.machine.bus
+  pub rooted : IsRooted (world_after opening trace)
+  pub denoted : IsDenoted (world_after opening trace)
+  pub windowed : IsWindowed (world_after opening trace)
+  pub registers : HasRegisters m.bus
+  pub timeless : IsTimeless (world_after opening trace).base.machine
+  pub users : (thread : ℕ) → ThreadWasStarted m.bus thread → cred_of m.bus thread ≡ Some root_cred
+  pub each : (thread : ℕ) → StandsAs (world_after opening trace) thread (calls thread)
+  -- one call at most is under way, and where none is, all is at rest
+  pub alone : (t u : ℕ) (one other : Waiting) → calls t ≡ Some one → calls u ≡ Some other → t ≡ u
+  pub rests : ((thread : ℕ) → calls thread ≡ None) → IsAtRest (world_after opening trace)
