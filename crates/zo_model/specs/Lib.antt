@@ -1,6 +1,6 @@
 -- which commands can be given
 pub mod Commands
--- the tree that users see, and what commands are answered
+-- the trees of names that users see
 pub mod Tree
 -- a directory as its words have it
 pub mod Directory
