@@ -1,9 +1,10 @@
 -- A world in which the root coffer is the only one and isn't lost, and the scene in which a call of a thread works there.
-use Rattle.std.specs.Prelude.{◌≡◌, ◌≢◌, ℕ, ◌<◌, List, [], ◌∷◌, length, Contains, false}
+use Rattle.std.specs.Prelude.{◌≡◌, ℕ, ◌<◌, List, [], ◌∷◌, length, Contains, false}
 use Rattle.pm_words.specs.Word.{Word}
 use Rattle.pm_words.specs.Memory.{HasPages}
-use Rattle.zo_layout.specs.Layout.{kernel_pages}
+use Rattle.zo_layout.specs.Layout.{kernel_pages, root_control}
 use Rattle.kern_model.specs.KernelView.{value, pages_of, owner_of}
+use Rattle.kern_model.specs.declared.limits.TheConstants.{KERNEL, ROOT_COFFER}
 use Rattle.tr_types.specs.declared.kernel_call.Holder.{Holder}
 use Rattle.zo_model.specs.Alone.{IsAlone}
 use Rattle.zo_model.specs.CofferWords.{CofferAt, Rests}
@@ -12,12 +13,13 @@ use Rattle.zo_model.specs.Steps.{Scene}
 use Rattle.tr_model.specs.RootCoffer.{IsRootAlone, root_coffer}
 use Rattle.tr_model.specs.Worlds.{World, root_row, coffer_at, coffers_at}
 
--- What stands of the kernel's pages: the root coffer is the only one, and each of them is owned, so that no coffer is given
--- one.
+-- What stands of the kernel's pages: the root coffer is the only one, each of them is the kernel's, so that no coffer has
+-- one or is given one, and the root coffer's control page is its own.
 pub record HasKernel (words : List Word) : Type 0 where
   pub alone : IsRootAlone words
   pub size : HasPages (length words)
-  pub owned : (page : ℕ) → page < kernel_pages (pages_of words) → owner_of words page ≢ 0
+  pub owned : (page : ℕ) → page < kernel_pages (pages_of words) → owner_of words page ≡ KERNEL
+  pub control : owner_of words (root_control (pages_of words)) ≡ ROOT_COFFER
 
 -- A thread's map of the root coffer, which is no obstacle to another thread's. It is the only coffer, so that each process
 -- has it under its first key.

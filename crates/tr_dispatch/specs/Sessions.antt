@@ -115,12 +115,13 @@ abbrev pub SessionKnows : Session → Answer → World → Type 0
 SessionKnows s answer w = KnowsAt s.thread s.command s.stage answer w
 
 -- An action that was answered so, at a tick: it is legal and keeps our discipline, the words denote the tree afterwards,
--- no window is open that may not be, and then this is known.
+-- no window is open that may not be, other threads that hold nothing still hold nothing, and then this is known.
 pub record SessionGoes (Known : Answer → World → Type 0) (thread now : ℕ) (mark : Mark) (action : Action) (w : World) (answer : Answer) : Type 0 where
   pub legal : IsLegal w (entry.Act thread now mark action answer)
   pub disciplined : IsDisciplined w (entry.Act thread now mark action answer)
   pub denoted : IsDenoted (stepped w (entry.Act thread now mark action answer))
   pub windowed : IsWindowed w → IsWindowed (stepped w (entry.Act thread now mark action answer))
+  pub beside : (other : ℕ) → other ≢ thread → IsBare w.base.machine.bus other → IsBare (stepped w (entry.Act thread now mark action answer)).base.machine.bus other
   pub knows : Known answer (stepped w (entry.Act thread now mark action answer))
 
 -- An action that a session gives: it looks for no coffer while a key is open, maps the one that it found last, and however
