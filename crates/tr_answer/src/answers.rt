@@ -112,7 +112,7 @@ impl Coffers {
     }
 }
 
-/// Puts an empty file into the coffer at this place, under these names from the root of the tree on.
+/// Puts an empty file with these names into the coffer at this place.
 fn grow(
     coffers: &mut Vec<Coffer>,
     alloc: Global,
@@ -145,3 +145,6 @@ fn found(
     coffers.push(Coffer::new(alloc, path, perm, root)?)?;
     Ok(())
 }
+
+#[cfg(test)]
+mod tests;

@@ -2,9 +2,9 @@
 use super::run_text;
 use pm_words::NoMemory;
 use std::alloc::Global;
-use tr_answer::Tree;
+use tr_answer::Coffers;
 use tr_top::Status;
-use tr_types::{Command, Kind, Path, Reply};
+use tr_types::{Command, Cred, Kind, Path, Reply};
 
 /// A command, by its path.
 #[derive(Clone, Copy, Debug)]
@@ -37,15 +37,15 @@ impl Ask<'_> {
 }
 
 /// Writes what a run prints for the reply, where it is one that the slow program gives.
-fn write_reply(text: &mut String, reply: &Reply) -> Result<(), NoMemory> {
+fn write_reply(text: &mut String, reply: &Option<Reply>) -> Result<(), NoMemory> {
     match reply {
-        Reply::Made => writeln!(text, "t1 made")?,
-        Reply::Exists => writeln!(text, "t1 exists")?,
-        Reply::NotFound => writeln!(text, "t1 notfound")?,
-        Reply::Info(Kind::File, size, uid, gid, mode) => {
+        Some(Reply::Made) => writeln!(text, "t1 made")?,
+        Some(Reply::Exists) => writeln!(text, "t1 exists")?,
+        Some(Reply::NotFound) => writeln!(text, "t1 notfound")?,
+        Some(Reply::Info(Kind::File, size, uid, gid, mode)) => {
             writeln!(text, "t1 info file {size} {uid} {gid} {mode:o}")?
         }
-        Reply::Info(Kind::Dir, size, uid, gid, mode) => {
+        Some(Reply::Info(Kind::Dir, size, uid, gid, mode)) => {
             writeln!(text, "t1 info dir {size} {uid} {gid} {mode:o}")?
         }
         _ => writeln!(text, "another reply")?,
@@ -55,12 +55,13 @@ fn write_reply(text: &mut String, reply: &Reply) -> Result<(), NoMemory> {
 
 /// What the slow program answers, as a run prints it.
 fn slow_replies(alloc: Global, asks: &[Ask]) -> Result<String, NoMemory> {
-    let mut tree = Tree::new(alloc)?;
+    let mut coffers = Coffers::new(alloc)?;
+    let cred = Cred::new(0, 0);
     let mut replies = String::new(alloc);
     for ask in asks {
         let command = ask.command(alloc)?;
-        let reply = tree.answer(alloc, &command)?;
-        tree.apply(alloc, &command)?;
+        let reply = coffers.answer(alloc, &cred, &command)?;
+        coffers.apply(alloc, &cred, &command)?;
         write_reply(&mut replies, &reply)?;
     }
     Ok(replies)
