@@ -1,7 +1,7 @@
 -- What the program's coffers stand for, and how they change.
 use Rattle.std.specs.Prelude.{ℕ, List, [], ◌∷◌, ◌++◌, length, slice_get, Bool, true, Option, Some, None, option_and_then, nat_lt, if◌then◌else◌}
 use Rattle.zo_model.specs.Coffers as spec
-use Rattle.zo_model.specs.Tree.{Member, Node, FileOf, same_names}
+use Rattle.zo_model.specs.Tree.{Node, FileOf, same_names}
 use Rattle.tr_answer.specs.declared.coffer.Closed.{Closed}
 use Rattle.tr_answer.specs.declared.coffer.Closed.TheVariants as closed
 use Rattle.tr_answer.specs.declared.coffer.Content.{Content}

@@ -1,5 +1,5 @@
 -- What the program's decisions stand for, and what is read of an answer.
-use Rattle.std.specs.Prelude.{◌≡◌, ℕ, List, [], ◌∷◌, ◌++◌, slice_get, Bool, true, false, Result, Ok, Err, Option, Some, None, if◌then◌else◌}
+use Rattle.std.specs.Prelude.{◌≡◌, ℕ, List, [], slice_get, false, Result, Ok, Err, Option, Some, None, if◌then◌else◌}
 use Rattle.std.specs.Borrow.{Bor}
 use Rattle.std.specs.Option.{option_map}
 use Rattle.tr_types.specs.declared.command.Command.{Command}
@@ -9,7 +9,7 @@ use Rattle.tr_types.specs.declared.permission.Cred.{Cred}
 use Rattle.tr_types.specs.declared.permission.Perm.{Perm}
 use Rattle.zo_model.specs.Answers.{Answered, told, grown, founded, answer_by}
 use Rattle.zo_model.specs.Coffers as spec
-use Rattle.zo_model.specs.Tree.{Member, Node, Directory, FileOf, same_names, new_tree}
+use Rattle.zo_model.specs.Tree.{Member, Directory, FileOf}
 use Rattle.tr_answer.specs.declared.decision.Decision.{Decision}
 use Rattle.tr_answer.specs.declared.decision.Decision.TheVariants as decided
 

@@ -2,7 +2,7 @@ use Rattle.std.proofs.Common.{◌≡◌, set, ap, sym, ◌∙◌}
 use Rattle.std.proofs.lemmas.Bool.{cond-true, cond-false}
 use Rattle.zo_model.specs.Coffers.{Coffer}
 use Rattle.zo_model.specs.Tree.{same_names}
-use Rattle.tr_answer.specs.Contents.{content_closed, closed_coffer, with_content}
+use Rattle.tr_answer.specs.Contents.{content_closed, closed_coffer}
 use Rattle.tr_answer.proofs.CofferLemmas.{set_closed}
 use Rattle.tr_answer.proofs.coffer.close_all.Goals as goal
 use Rattle.tr_answer.proofs.coffer.close_all.Goals.{then-same_names, else-same_names}

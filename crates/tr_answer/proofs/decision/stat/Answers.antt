@@ -1,11 +1,9 @@
-use Rattle.std.proofs.Common.{◌≡◌, ℕ, List, [], true, Some, Ok, Err, Option, Result, sym, ap, ◌∙◌}
-use Rattle.std.specs.Borrow.{Bor}
+use Rattle.std.proofs.Common.{◌≡◌, ℕ, List, [], Some, sym, ap, ◌∙◌}
 use Rattle.tr_types.specs.Paths.{names_of}
 use Rattle.tr_types.specs.declared.command.Command.TheVariants.{Stat}
 use Rattle.tr_types.specs.declared.command.Reply.{Reply}
 use Rattle.zo_model.specs.Answers.{told, state_of, walk}
-use Rattle.zo_model.specs.Coffers.{Coffer, lies_in, coffer_of, within}
-use Rattle.zo_model.specs.Tree.{Member}
+use Rattle.zo_model.specs.Coffers.{within}
 use Rattle.tr_answer.specs.Decisions.{opened_by}
 use Rattle.tr_answer.proofs.AnswerLemmas.{stat_is}
 use Rattle.tr_answer.proofs.Deepest.{found_at, path_inside}

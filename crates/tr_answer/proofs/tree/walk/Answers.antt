@@ -1,5 +1,5 @@
-use Rattle.std.proofs.Common.{Option, Some, None, ap, sym, ◌∙◌}
-use Rattle.zo_model.specs.Tree.{Node, Directory, FileOf}
+use Rattle.std.proofs.Common.{Some, None, ap, sym, ◌∙◌}
+use Rattle.zo_model.specs.Tree.{Directory, FileOf}
 use Rattle.tr_answer.specs.declared.tree.Node.{Node as HeldNode}
 use Rattle.tr_answer.specs.Nodes.{node_of}
 use Rattle.tr_answer.proofs.Walks.{walk_here}

@@ -1,4 +1,4 @@
-use Rattle.std.proofs.Common.{◌≡◌, List, false, [], ap, subst, ◌∙◌}
+use Rattle.std.proofs.Common.{◌≡◌, List, false, subst}
 use Rattle.zo_model.specs.Coffers.{Coffer, is_coffer}
 use Rattle.zo_model.specs.Tree.{FileOf}
 use Rattle.tr_answer.specs.Decisions.{IsFresh}
