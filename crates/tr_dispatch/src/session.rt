@@ -88,7 +88,170 @@ impl Session {
         ensures built { IsCommand self.old.command → IfOk result GivesAction }
         ensures gives { IfOk result (SessionStepsFrom self.old (answer_told (option_copied answer.entry)) self.new) }
     {
-        let _ = (alloc, answer, now);
-        Err(AllocError)
+        let answer = answer.unwrap_or(&Answer::Done);
+        match mem::replace(&mut self.stage, Stage::Over) {
+            Stage::Begin => self.find(alloc),
+            Stage::Finding => self.map(alloc, answer),
+            Stage::Mapping => self.open(alloc, answer),
+            Stage::Working(op) => self.work(alloc, op, answer, now),
+            Stage::Closing(reply) => self.unmap(alloc, reply),
+            Stage::Ending(reply) => Ok(SessionStep::Over(reply)),
+            Stage::Over => unreachable!(),
+        }
     }
+
+    fn find(&mut self, alloc: Global) -> Result<SessionStep, AllocError>
+        ensures same { (self.new.thread ≡ self.old.thread) × (self.new.command ≡ self.old.command) }
+        ensures runs { IfOk result (RunsOn self.new.stage) }
+        ensures built { IsCommand self.old.command → IfOk result GivesAction }
+        ensures gives { (answer : Answer) → IfOk result (LeadsTo self.old.thread self.old.command stage.Begin answer self.new.stage) }
+    {
+        let path = consulted_path(alloc, &self.command)?;
+        let look = kernel(alloc, Kcall::Find { path, also: None })?;
+        self.stage = Stage::Finding;
+        Ok(SessionStep::Act(look, Mark::Plain))
+    }
+
+    // The coffer is found.
+    fn map(&mut self, alloc: Global, answer: &Answer) -> Result<SessionStep, AllocError>
+        ensures same { (self.new.thread ≡ self.old.thread) × (self.new.command ≡ self.old.command) }
+        ensures runs { IfOk result (RunsOn self.new.stage) }
+        ensures built { IsCommand self.old.command → IfOk result GivesAction }
+        ensures gives { IfOk result (LeadsTo self.old.thread self.old.command stage.Finding answer.now self.new.stage) }
+    {
+        if !is_found(answer) {
+            return Ok(damaged());
+        }
+        let call = Kcall::Map {
+            path: consulted_path(alloc, &self.command)?,
+            right: right_of(&self.command),
+            exclusive: false,
+        };
+        let map = kernel(alloc, call)?;
+        self.stage = Stage::Mapping;
+        Ok(SessionStep::Act(map, Mark::Plain))
+    }
+
+    // The coffer is mapped.
+    fn open(&mut self, alloc: Global, answer: &Answer) -> Result<SessionStep, AllocError>
+        ensures same { (self.new.thread ≡ self.old.thread) × (self.new.command ≡ self.old.command) }
+        ensures runs { IfOk result (RunsOn self.new.stage) }
+        ensures built { IfOk result GivesAction }
+        ensures gives { IfOk result (LeadsTo self.old.thread self.old.command stage.Mapping answer.now self.new.stage) }
+    {
+        let Some(mapped) = mapped(answer) else {
+            return Ok(damaged());
+        };
+        if !is_key(mapped.key) {
+            return Ok(damaged());
+        }
+        let pkru = Pkru::only(mapped.key, writes(&self.command));
+        let command = self.command.copy(alloc)?;
+        self.stage = Stage::Working(OpRun::begin(alloc, self.thread, self.cred, command, mapped)?);
+        Ok(SessionStep::Act(Action::Pkru(pkru.0), Mark::Open))
+    }
+
+    // The call goes on; at its end the window is closed.
+    fn work(
+        &mut self,
+        alloc: Global,
+        mut op: OpRun,
+        answer: &Answer,
+        now: u32,
+    ) -> Result<SessionStep, AllocError>
+        ensures same { (self.new.thread ≡ self.old.thread) × (self.new.command ≡ self.old.command) }
+        ensures runs { IfOk result (RunsOn self.new.stage) }
+        ensures built { IfOk result GivesAction }
+        ensures gives { IfOk result (LeadsTo self.old.thread self.old.command (stage.Working op) answer.now self.new.stage) }
+    {
+        match op.next(alloc, answer, now)? {
+            OpStep::Act(action, mark) => {
+                self.stage = Stage::Working(op);
+                Ok(SessionStep::Act(action, mark))
+            }
+            OpStep::Over(reply) => {
+                self.stage = Stage::Closing(reply);
+                Ok(SessionStep::Act(Action::Pkru(Pkru::closed().0), Mark::Close))
+            }
+        }
+    }
+
+    // The window is closed: gives the coffer back.
+    fn unmap(&mut self, alloc: Global, reply: Reply) -> Result<SessionStep, AllocError>
+        ensures same { (self.new.thread ≡ self.old.thread) × (self.new.command ≡ self.old.command) }
+        ensures runs { IfOk result (RunsOn self.new.stage) }
+        ensures built { IfOk result GivesAction }
+        ensures gives { (answer : Answer) → IfOk result (LeadsTo self.old.thread self.old.command (stage.Closing reply) answer self.new.stage) }
+    {
+        let unmap = kernel(alloc, Kcall::Unmap { id: ROOT_COFFER })?;
+        self.stage = Stage::Ending(reply);
+        Ok(SessionStep::Act(unmap, Mark::Plain))
+    }
+}
+
+fn kernel(alloc: Global, call: Kcall) -> Result<Action, AllocError>
+    ensures { IfOk result (λ action. action ≡ Action.Kernel call) }
+{
+    Ok(Action::Kernel(Boxed::new(alloc, call)?))
+}
+
+// An answer that doesn't fit.
+fn damaged() -> SessionStep
+    ensures { result ≡ SessionStep.Over (Reply.Damaged 0) }
+{
+    SessionStep::Over(Reply::Damaged { addr: 0 })
+}
+
+// The path whose coffer a command consults: of a `create` that of the root directory.
+fn consulted_path(alloc: Global, command: &Command) -> Result<Path, AllocError>
+    ensures { IfOk result (λ path. path ≡ consulted_path command.now) }
+{
+    match command {
+        Command::Create { .. } => Ok(Path::new(Vec::from_slice(alloc, b"/")?)),
+        Command::Stat { path } => path.copy(alloc),
+    }
+}
+
+// Whether a command stores.
+fn writes(command: &Command) -> bool
+    ensures { result ≡ writes command.now }
+{
+    matches!(command, Command::Create { .. })
+}
+
+fn right_of(command: &Command) -> Right
+    ensures { result ≡ right_of command.now }
+{
+    match command {
+        Command::Create { .. } => Right::WRITE,
+        Command::Stat { .. } => Right::READ,
+    }
+}
+
+fn is_found(answer: &Answer) -> bool
+    ensures { (first second : _) → answer.now ≡ Answer.Kern (KernAnswer.Found first second) → IsTrue result }
+{
+    match answer {
+        Answer::Kern(answer) => matches!(answer.get(), KernAnswer::Found { .. }),
+        _ => false,
+    }
+}
+
+fn mapped(answer: &Answer) -> Option<Mapped>
+    ensures { MatchOption result ((m : _) → answer.now ≢ Answer.Kern (KernAnswer.Mapped m)) (λ m. answer.now ≡ Answer.Kern (KernAnswer.Mapped m)) }
+{
+    match answer {
+        Answer::Kern(answer) => match answer.get() {
+            KernAnswer::Mapped(m) => Some(*m),
+            _ => None,
+        },
+        _ => None,
+    }
+}
+
+// Whether a number is a coffer's key.
+fn is_key(key: u8) -> bool
+    ensures { IsTrue result ↔ ((1 ≤ key) × (key ≤ 15)) }
+{
+    1 <= key && key <= LAST_KEY
 }

@@ -1,0 +1,20 @@
+use Rattle.std.proofs.Common.{rules, ap, sym, subst, ◌∙◌}
+use Rattle.kern_model.specs.Rights.{only_pkru}
+use Rattle.tr_types.specs.declared.command.Command.{Command}
+use Rattle.zo_ops.specs.Knows.{BeginKnows}
+use Rattle.tr_dispatch.proofs.Exits.{open_built, open_gives}
+use Rattle.tr_dispatch.proofs.session.Session.open.Goals as goal
+
+pub returns-clause-built : goal.returns-clause-built
+returns-clause-built c = open_built c.writes.result c.in-Some.mapped.key c.only-pkru.result.0 (record { least = search rules; most = search rules }) c.only-pkru.ensures
+
+pub returns-clause-gives : goal.returns-clause-gives
+returns-clause-gives c =
+    let copied = c.in_ok-command.ensures in
+    let begun = c.in_ok-begin.ensures in
+    open_gives c.args.self.now.thread c.args.self.now.command c.args.answer.now c.in-Some.mapped c.in_ok-begin.field-0 c.only-pkru.result.0 c.in-Some.ensures
+    (record {
+      command_is = begun.command ∙ copied;
+      knows = λ first s k. begun.knows first s (subst (λ (d : Command). BeginKnows c.in-Some.mapped d s) (sym copied) k);
+    })
+    (c.only-pkru.ensures ∙ ap (only_pkru c.in-Some.mapped.key) c.writes.ensures)
