@@ -1,15 +1,15 @@
 -- What a session gives, exit by exit.
-use Rattle.std.proofs.Common.{◌≡◌, ◌≢◌, ◌⊎◌, inl, inr, ℕ, ◌<◌, ◌≤◌, ◌^◌, List, [], ◌∷◌, length, Contains, Bool, true, false, Option, Some, None, refl, ap, sym, subst, ◌∙◌, arith, slice_index_or}
+use Rattle.std.proofs.Common.{◌≡◌, ◌≢◌, ◌⊎◌, inl, inr, ℕ, ◌<◌, ◌≤◌, ◌^◌, List, [], ◌∷◌, Contains, Bool, true, false, Option, Some, None, refl, ap, sym, subst, ◌∙◌, arith, slice_index_or}
 use Rattle.pm_words.specs.Word.{Word}
 use Rattle.zo_layout.specs.Layout.{page_at, root_control, kernel_pages}
-use Rattle.bus_model.specs.Machine.{Bus, Answers, IsAction, callers_of, pkru_of}
+use Rattle.bus_model.specs.Machine.{Bus, Answers, callers_of}
 use Rattle.kern_model.specs.Kernel.{coffer_pages}
 use Rattle.kern_model.specs.KernelCalls.{answer_of, words_after, holders_after, IsOneRight}
-use Rattle.kern_model.specs.KernelView.{value, pages_of, owner_of}
+use Rattle.kern_model.specs.KernelView.{value, pages_of}
 use Rattle.kern_model.specs.Rights.{closed_pkru, only_pkru, key_for, those_against, with_row, without_row, holds_itself, IsLeastOf}
 use Rattle.kern_model.proofs.Idle.{idle_pages}
 use Rattle.tr_types.specs.declared.action.Action.{Action}
-use Rattle.tr_types.specs.declared.action.Action.TheVariants.{Load, Store, Cas, Flush, Fence, Pkru, Kernel}
+use Rattle.tr_types.specs.declared.action.Action.TheVariants.{Pkru, Kernel}
 use Rattle.tr_types.specs.declared.action.Answer.{Answer}
 use Rattle.tr_types.specs.declared.action.Answer.TheVariants.{Word as WordIs, Done, Fault, Kern}
 use Rattle.tr_types.specs.declared.command.Command.{Command}
@@ -26,25 +26,23 @@ use Rattle.tr_types.specs.declared.kernel_call.KernAnswer.TheVariants as kern
 use Rattle.tr_types.specs.declared.kernel_call.Mapped.{Mapped}
 use Rattle.tr_types.specs.declared.permission.Right.{Right}
 use Rattle.zo_model.specs.Alone.{IsAlone}
-use Rattle.zo_model.specs.Alone.{root_coffer as seen_root}
 use Rattle.zo_model.specs.Coffers.{Content, Ready, Lost, Quarantined, Coffer}
 use Rattle.zo_model.specs.CofferWords.{Rests}
 use Rattle.zo_model.specs.Commands.{IsPath, IsCommand, sought_path, consulted_path, right_needed}
-use Rattle.zo_model.specs.Discipline.{Keeps, MayAskAt, MayEnlarge}
+use Rattle.zo_model.specs.Discipline.{Keeps, MayAskAt}
 use Rattle.zo_model.specs.Legal.{Verdict, IsJudged, MayCommit, MayReply}
 use Rattle.zo_model.specs.Seats.{Seat, LastFind, NotAsked, Given, seat_after, found_after, is_commit}
 use Rattle.zo_model.specs.Steps.{Scene, IsCofferWord, IsReachable, Goes as OpGoes, ActGives, OverGives, MayMark}
 use Rattle.zo_model.specs.Tree.{Member}
-use Rattle.tr_model.specs.Marks.{IsMarked, pkru_mark}
+use Rattle.tr_model.specs.Marks.{pkru_mark}
 use Rattle.tr_model.specs.OneWindow.{IsKey, FindsShut, MapsFound}
 use Rattle.tr_model.specs.RootCoffer.{IsGiven, MapAnswers, UnmapAnswers, root_held, root_mapped, found_at}
-use Rattle.tr_model.specs.Worlds.{World, stepped, pool_of, coffers_at, KeepsAt, IsKnownCall, IsLegal, IsLegalCommit, IsDisciplined, IsCommitDone, IsDenoted}
+use Rattle.tr_model.specs.Worlds.{World, stepped, pool_of, coffers_at, KeepsAt, IsKnownCall, IsLegal, IsLegalCommit, IsDisciplined, IsCommitDone}
 use Rattle.tr_model.proofs.RootLemmas.{find_answer, find_words, find_held, map_answers, map_words, map_held, unmap_answers, unmap_words, unmap_held}
 use Rattle.zo_ops.specs.declared.op.OpRun.{OpRun}
 use Rattle.zo_ops.specs.declared.op.OpStep.TheVariants as op_step
 use Rattle.zo_ops.specs.declared.op.Stage.{Stage as OpStage}
 use Rattle.zo_ops.specs.declared.op.Stage.TheVariants as op_stage
-use Rattle.zo_ops.specs.Acts.{IsStep}
 use Rattle.zo_ops.specs.Knows.{Stands, BeginKnows, IsSameCall, OpKnows, StepsFrom, DrawnKnows, MayPutAll, stored}
 use Rattle.zo_ops.specs.Knows.{StageKnows as OpStageKnows}
 use Rattle.zo_plan.specs.Runs.{Due}
@@ -53,10 +51,11 @@ use Rattle.tr_dispatch.specs.declared.session.SessionStep.TheVariants as step
 use Rattle.tr_dispatch.specs.declared.session.Stage.{Stage}
 use Rattle.tr_dispatch.specs.declared.session.Stage.TheVariants as stage
 use Rattle.tr_dispatch.specs.Rooted.{HasKernel, IsRootRow, IsRooted, IsAtRest, root_at, scene_of}
-use Rattle.tr_dispatch.specs.Sessions.{Sits, IsBare, HasMapped, HasFound, IsFresh, MayTell, StageKnows, KnowsAt, SessionGoes, SessionActs, LeadsTo, GivesAction, row_of, right_of, open_pkru, writes}
+use Rattle.tr_dispatch.specs.Sessions.{HasFound, StageKnows, KnowsAt, SessionGoes, LeadsTo, GivesAction, row_of, right_of, open_pkru, writes}
 use Rattle.tr_dispatch.proofs.Kernels.{page_owned, owned_page, page_past, control_inside}
 use Rattle.tr_dispatch.proofs.Paths.{sought, consults_path, path_text}
-use Rattle.tr_dispatch.proofs.Quiet.{trees_same, coffers_same, still_denoted, still_at_rest}
+use Rattle.tr_dispatch.proofs.Quiet.{still_denoted, still_at_rest}
+use Rattle.tr_dispatch.proofs.Reached.{by_reached}
 use Rattle.tr_dispatch.proofs.Register.{shut, open_marked}
 use Rattle.tr_dispatch.proofs.Roots.{coffers_are, denoted_of, scene_denotes}
 use Rattle.tr_dispatch.proofs.Rows.{key_is_first, nobody_against, holds_own, row_comes, rows_were, row_stays_with, row_stays_without, row_was, none_left}
@@ -294,7 +293,7 @@ module _ (thread : ℕ) (command : Command) (answer : Answer) (path : List ℕ) 
 
   module _ (a : mapped_root ≡ told_by) where
     row_before : (row : Holder) → Contains mapped_world.base.machine.bus.holders row → Contains map_bus.holders row ⊎ (new_row ≡ row)
-    row_before row among = rows_were thread new_row refl refl map_bus.holders row (subst (λ (hs : List Holder). Contains hs row) (map_rows a) among)
+    row_before row among = rows_were new_row map_bus.holders row (subst (λ (hs : List Holder). Contains hs row) (map_rows a) among)
 
     rooted_row : (row : Holder) → Contains map_bus.holders row ⊎ (new_row ≡ row) → IsRootRow row
     rooted_row row (inl before) = k.rooted.rows row before
@@ -322,7 +321,7 @@ module _ (thread : ℕ) (command : Command) (answer : Answer) (path : List ℕ) 
         1,
         record {
           is_key = record { least = omega arith; most = omega arith };
-          held = subst (λ (hs : List Holder). Contains hs new_row) (sym (map_rows a)) (row_comes thread new_row refl refl map_bus.holders);
+          held = subst (λ (hs : List Holder). Contains hs new_row) (sym (map_rows a)) (row_comes new_row map_bus.holders);
           only = λ row among own. own_row row own (row_before row among);
           register = k.knows.0.register;
         },
@@ -534,103 +533,25 @@ asks_uncommitted mapped command (op_stage.Drawing place) (Kern r) s k unasked = 
 asks_uncommitted mapped command (op_stage.Storing run) answer s k unasked = absurd (not_asked (sym (told_given run.left s k.1) ∙ unasked))
 asks_uncommitted mapped command op_stage.Over answer s k unasked = absurd k
 
--- an action in the coffer is a known one, shows no coffer, and maps none
-module _ (s : Scene) where
-  reached_known : (action : Action) → IsReachable s action → IsKnownCall action
-  reached_known (Load addr) reached = tt
-  reached_known (Store addr x) reached = tt
-  reached_known (Cas addr old new) reached = absurd reached
-  reached_known (Flush addr) reached = absurd reached
-  reached_known Fence reached = absurd reached
-  reached_known (Pkru pkru) reached = absurd reached
-  reached_known (Kernel (kcall.Find path also)) reached = absurd reached
-  reached_known (Kernel (kcall.Map path right exclusive)) reached = absurd reached
-  reached_known (Kernel (kcall.Unmap id)) reached = absurd reached
-  reached_known (Kernel (kcall.New parent path kind mode link guard)) reached = absurd reached
-  reached_known (Kernel (kcall.Delete id parent link guard)) reached = absurd reached
-  reached_known (Kernel (kcall.Enlarge id count)) reached = tt
-  reached_known (Kernel (kcall.Shrink id pages guard)) reached = absurd reached
-  reached_known (Kernel (kcall.Split id path pages mode link guard)) reached = absurd reached
-  reached_known (Kernel (kcall.Merge child parent pages link guard)) reached = absurd reached
-  reached_known (Kernel (kcall.Mode id mode)) reached = absurd reached
-  reached_known (Kernel (kcall.Recover id ready)) reached = absurd reached
+-- An action in the coffer is a known one, looks for no coffer and maps none. It keeps the discipline, where its stores are past
+-- the kernel's pages, and a call that asks for pages has changed nothing.
+module _ (s : Scene) (action : Action) (reached : IsReachable s action) where
+  reached_known : IsKnownCall action
+  reached_known = by_reached s IsKnownCall (λ addr word. tt) (λ addr x may word. tt) (λ id count may. tt) action reached
 
-  reached_shut : (w : World) (thread now : ℕ) (mark : Mark) (action : Action) (given : Answer) → IsReachable s action → FindsShut w (entry.Act thread now mark action given)
-  reached_shut w thread now mark (Load addr) given reached = tt
-  reached_shut w thread now mark (Store addr x) given reached = tt
-  reached_shut w thread now mark (Cas addr old new) given reached = absurd reached
-  reached_shut w thread now mark (Flush addr) given reached = absurd reached
-  reached_shut w thread now mark Fence given reached = absurd reached
-  reached_shut w thread now mark (Pkru pkru) given reached = absurd reached
-  reached_shut w thread now mark (Kernel (kcall.Find path also)) given reached = absurd reached
-  reached_shut w thread now mark (Kernel (kcall.Map path right exclusive)) given reached = absurd reached
-  reached_shut w thread now mark (Kernel (kcall.Unmap id)) given reached = absurd reached
-  reached_shut w thread now mark (Kernel (kcall.New parent path kind mode link guard)) given reached = absurd reached
-  reached_shut w thread now mark (Kernel (kcall.Delete id parent link guard)) given reached = absurd reached
-  reached_shut w thread now mark (Kernel (kcall.Enlarge id count)) given reached = tt
-  reached_shut w thread now mark (Kernel (kcall.Shrink id pages guard)) given reached = absurd reached
-  reached_shut w thread now mark (Kernel (kcall.Split id path pages mode link guard)) given reached = absurd reached
-  reached_shut w thread now mark (Kernel (kcall.Merge child parent pages link guard)) given reached = absurd reached
-  reached_shut w thread now mark (Kernel (kcall.Mode id mode)) given reached = absurd reached
-  reached_shut w thread now mark (Kernel (kcall.Recover id ready)) given reached = absurd reached
+  reached_shut : (w : World) (thread now : ℕ) (mark : Mark) (given : Answer) → FindsShut w (entry.Act thread now mark action given)
+  reached_shut w thread now mark given = by_reached s (λ a. FindsShut w (entry.Act thread now mark a given)) (λ addr word. tt) (λ addr x may word. tt) (λ id count may. tt) action reached
 
-  reached_found : (w : World) (thread now : ℕ) (mark : Mark) (action : Action) (given : Answer) → IsReachable s action → MapsFound w (entry.Act thread now mark action given)
-  reached_found w thread now mark (Load addr) given reached = tt
-  reached_found w thread now mark (Store addr x) given reached = tt
-  reached_found w thread now mark (Cas addr old new) given reached = absurd reached
-  reached_found w thread now mark (Flush addr) given reached = absurd reached
-  reached_found w thread now mark Fence given reached = absurd reached
-  reached_found w thread now mark (Pkru pkru) given reached = absurd reached
-  reached_found w thread now mark (Kernel (kcall.Find path also)) given reached = absurd reached
-  reached_found w thread now mark (Kernel (kcall.Map path right exclusive)) given reached = absurd reached
-  reached_found w thread now mark (Kernel (kcall.Unmap id)) given reached = absurd reached
-  reached_found w thread now mark (Kernel (kcall.New parent path kind mode link guard)) given reached = absurd reached
-  reached_found w thread now mark (Kernel (kcall.Delete id parent link guard)) given reached = absurd reached
-  reached_found w thread now mark (Kernel (kcall.Enlarge id count)) given reached = tt
-  reached_found w thread now mark (Kernel (kcall.Shrink id pages guard)) given reached = absurd reached
-  reached_found w thread now mark (Kernel (kcall.Split id path pages mode link guard)) given reached = absurd reached
-  reached_found w thread now mark (Kernel (kcall.Merge child parent pages link guard)) given reached = absurd reached
-  reached_found w thread now mark (Kernel (kcall.Mode id mode)) given reached = absurd reached
-  reached_found w thread now mark (Kernel (kcall.Recover id ready)) given reached = absurd reached
+  reached_found : (w : World) (thread now : ℕ) (mark : Mark) (given : Answer) → MapsFound w (entry.Act thread now mark action given)
+  reached_found w thread now mark given = by_reached s (λ a. MapsFound w (entry.Act thread now mark a given)) (λ addr word. tt) (λ addr x may word. tt) (λ id count may. tt) action reached
 
-  found_stays : (action : Action) (given : Answer) (found : Option LastFind) → IsReachable s action → found_after action given found ≡ found
-  found_stays (Load addr) given found reached = refl
-  found_stays (Store addr x) given found reached = refl
-  found_stays (Cas addr old new) given found reached = absurd reached
-  found_stays (Flush addr) given found reached = absurd reached
-  found_stays Fence given found reached = absurd reached
-  found_stays (Pkru pkru) given found reached = absurd reached
-  found_stays (Kernel (kcall.Find path also)) given found reached = absurd reached
-  found_stays (Kernel (kcall.Map path right exclusive)) given found reached = absurd reached
-  found_stays (Kernel (kcall.Unmap id)) given found reached = absurd reached
-  found_stays (Kernel (kcall.New parent path kind mode link guard)) given found reached = absurd reached
-  found_stays (Kernel (kcall.Delete id parent link guard)) given found reached = absurd reached
-  found_stays (Kernel (kcall.Enlarge id count)) given found reached = refl
-  found_stays (Kernel (kcall.Shrink id pages guard)) given found reached = absurd reached
-  found_stays (Kernel (kcall.Split id path pages mode link guard)) given found reached = absurd reached
-  found_stays (Kernel (kcall.Merge child parent pages link guard)) given found reached = absurd reached
-  found_stays (Kernel (kcall.Mode id mode)) given found reached = absurd reached
-  found_stays (Kernel (kcall.Recover id ready)) given found reached = absurd reached
+  found_stays : (given : Answer) (found : Option LastFind) → found_after action given found ≡ found
+  found_stays given found = by_reached s (λ a. found_after a given found ≡ found) (λ addr word. refl) (λ addr x may word. refl) (λ id count may. refl) action reached
 
-  -- it keeps the discipline, where its stores are past the kernel's pages, and a call that asks for pages has changed nothing
-  reached_keeps : (end : ℕ) (action : Action) → IsReachable s action → ((addr : ℕ) → IsCofferWord s.coffer addr → end ≤ addr) → (s.seat.told ≡ NotAsked → s.seat.committed ≡ false) → Keeps end s.coffers s.seat action
-  reached_keeps end (Load addr) reached past fresh = tt
-  reached_keeps end (Store addr x) reached past fresh = past addr reached.1
-  reached_keeps end (Cas addr old new) reached past fresh = absurd reached
-  reached_keeps end (Flush addr) reached past fresh = absurd reached
-  reached_keeps end Fence reached past fresh = absurd reached
-  reached_keeps end (Pkru pkru) reached past fresh = absurd reached
-  reached_keeps end (Kernel (kcall.Find path also)) reached past fresh = absurd reached
-  reached_keeps end (Kernel (kcall.Map path right exclusive)) reached past fresh = absurd reached
-  reached_keeps end (Kernel (kcall.Unmap id)) reached past fresh = absurd reached
-  reached_keeps end (Kernel (kcall.New parent path kind mode link guard)) reached past fresh = absurd reached
-  reached_keeps end (Kernel (kcall.Delete id parent link guard)) reached past fresh = absurd reached
-  reached_keeps end (Kernel (kcall.Enlarge id count)) reached past fresh = subst (λ (b : Bool). MayAskAt b s.coffers s.seat (kcall.Enlarge id count)) (sym (fresh reached.4.once)) reached.4
-  reached_keeps end (Kernel (kcall.Shrink id pages guard)) reached past fresh = absurd reached
-  reached_keeps end (Kernel (kcall.Split id path pages mode link guard)) reached past fresh = absurd reached
-  reached_keeps end (Kernel (kcall.Merge child parent pages link guard)) reached past fresh = absurd reached
-  reached_keeps end (Kernel (kcall.Mode id mode)) reached past fresh = absurd reached
-  reached_keeps end (Kernel (kcall.Recover id ready)) reached past fresh = absurd reached
+  reached_keeps : (end : ℕ) → ((addr : ℕ) → IsCofferWord s.coffer addr → end ≤ addr) → (s.seat.told ≡ NotAsked → s.seat.committed ≡ false) → Keeps end s.coffers s.seat action
+  reached_keeps end past fresh =
+      by_reached s (Keeps end s.coffers s.seat) (λ addr word. tt) (λ addr x may word. past addr word)
+      (λ id count may. subst (λ (b : Bool). MayAskAt b s.coffers s.seat (kcall.Enlarge id count)) (sym (fresh may.4.once)) may.4) action reached
 
 -- a commit is right and done
 legal_by : (w : World) (seat : Seat) (action : Action) (commits : Bool) → (commits ≡ true → MayCommit (coffers_at w) seat action) → IsLegalCommit w action commits (Some seat)
@@ -680,7 +601,7 @@ module _ (thread : ℕ) (command : Command) (answer : Answer) (old new : OpRun) 
     act_found : HasFound acted_seat
     act_found = record {
       find = k.knows.2.find;
-      found = found_stays here action given k.seat.found gives.reachable ∙ k.knows.2.found;
+      found = found_stays here action gives.reachable given k.seat.found ∙ k.knows.2.found;
       named = k.knows.2.named;
       coffer = k.knows.2.coffer;
     }
@@ -709,7 +630,7 @@ module _ (thread : ℕ) (command : Command) (answer : Answer) (old new : OpRun) 
     act_goes = goes_on thread now command (stage.Working new) mark action w given
         (reached_known here action gives.reachable, subst (IsLegalCommit w action (is_commit mark given)) (sym k.sits.seat_is) (legal_by w k.seat action (is_commit mark given) goes.legal))
         (keeps_at w thread k.seat mark action given k.sits.seat_is (λ _. (
-          reached_keeps here (page_at (kernel_pages (pages_of w.base.machine.bus.words))) action gives.reachable (word_past w thread command k.seat k.knows.0 k.rooted k.sits k.knows.1) (asks_uncommitted old.mapped old.command old.stage answer here k.knows.4),
+          reached_keeps here action gives.reachable (page_at (kernel_pages (pages_of w.base.machine.bus.words))) (word_past w thread command k.seat k.knows.0 k.rooted k.sits k.knows.1) (asks_uncommitted old.mapped old.command old.stage answer here k.knows.4),
           done_by mark action given gives.marked goes.done,
         )))
         (same_holders w thread now mark action given bridge.holders)
@@ -720,8 +641,8 @@ pub act_gives : (thread : ℕ) (command : Command) (answer : Answer) (old new : 
 act_gives thread command answer old new mark action same steps w k =
     let reached = (gives thread command answer old new mark action same steps w k).reachable in
     record {
-      shut = λ now given. reached_shut (scene_of w thread k.seat) w thread now mark action given reached;
-      found = λ now given. reached_found (scene_of w thread k.seat) w thread now mark action given reached;
+      shut = λ now given. reached_shut (scene_of w thread k.seat) action reached w thread now mark given;
+      found = λ now given. reached_found (scene_of w thread k.seat) action reached w thread now mark given;
       goes = act_goes thread command answer old new mark action same steps w k;
     }
 
@@ -853,7 +774,7 @@ module _ (thread : ℕ) (command : Command) (answer : Answer) (reply : Reply) (w
         end_knows
 
   held_itself : holds_itself thread 1 end_bus.holders ≡ true
-  held_itself = holds_own end_bus.threads thread (row_of thread command k.knows.0) refl refl end_bus.holders k.knows.1.held
+  held_itself = holds_own thread (row_of thread command k.knows.0) refl refl end_bus.holders k.knows.1.held
 
   end_goes_on : (given : Answer) → Answers end_bus thread now ends given → SessionGoes (KnowsAt thread command (stage.Ending reply)) thread now Plain ends w given
   end_goes_on = by_kernel (SessionGoes (KnowsAt thread command (stage.Ending reply)) thread now Plain ends w) end_bus thread now (kcall.Unmap 1)

@@ -17,7 +17,6 @@ use Rattle.kern_model.specs.Given.{IsGivenTo}
 use Rattle.kern_model.specs.Inner.{RisesFrom}
 use Rattle.kern_model.proofs.GivenSteps.{filter_rises, take_rises}
 use Rattle.kern_model.proofs.Idle.{idle_owner}
-use Rattle.tr_model.specs.RootCoffer.{IsRootAlone}
 use Rattle.tr_model.proofs.RootLemmas.{OwnsKernel}
 use Rattle.tr_dispatch.specs.Rooted.{HasKernel}
 use Rattle.tr_dispatch.proofs.Members.{is_left}

@@ -10,6 +10,8 @@ pub mod Kernels
 pub mod Roots
 -- the world after an action of a thread
 pub mod Worlds
+-- actions that a scene allows
+pub mod Reached
 -- steps in the window, as steps of a scene
 pub mod Scenes
 -- the path that a command looks for
@@ -18,3 +20,5 @@ pub mod Paths
 pub mod Quiet
 -- what a session gives, exit by exit
 pub mod Exits
+-- what a begun call knows, and where knowledge stays
+pub mod SessionLaws

@@ -1,10 +1,9 @@
 -- The path that a command looks for, where each path has one name at most.
-use Rattle.std.proofs.Common.{◌≡◌, ◌≢◌, inl, inr, ℕ, zero, suc, ◌-◌, ◌<◌, ◌≤◌, Bool, true, false, not, cond, ◌==◌, ◌||◌, List, [], ◌∷◌, length, take, get_or, refl, ap, subst, sym, ◌∙◌, arith, eq-eqb, ne_eqb}
+use Rattle.std.proofs.Common.{◌≡◌, inl, ℕ, zero, suc, ◌-◌, ◌<◌, ◌≤◌, Bool, true, false, not, cond, ◌==◌, ◌||◌, List, [], ◌∷◌, length, take, get_or, refl, ap, subst, sym, ◌∙◌, arith, eq-eqb, ne_eqb}
 use Rattle.std.specs.Prelude.{codes, nat_lt}
-use Rattle.std.specs.List.{suffix_len}
 use Rattle.std.proofs.lemmas.List.Sums.{suffix_len_is}
 use Rattle.kern_model.specs.KernelCalls.{IsPathText}
-use Rattle.tr_types.specs.Paths.{names_of, is_path_text, before_last_slash, directory_path}
+use Rattle.tr_types.specs.Paths.{names_of, is_path_text, before_last_slash}
 use Rattle.tr_types.specs.declared.command.Command.{Command}
 use Rattle.tr_types.specs.declared.command.Command.TheVariants.{Create, Stat}
 use Rattle.zo_model.specs.Commands.{IsName, IsPath, IsCommand, sought_path, consulted_path}

@@ -1,5 +1,5 @@
 -- What a step leaves that changes no word and is no commit: what users see, what the words denote, and that all is at rest.
-use Rattle.std.proofs.Common.{◌≡◌, ℕ, Bool, false, List, Contains, refl, ap, sym, subst, ◌∙◌}
+use Rattle.std.proofs.Common.{◌≡◌, ℕ, Bool, false, List, ap, sym, subst}
 use Rattle.pm_words.specs.Word.{Word}
 use Rattle.bus_model.specs.Machine.{acted}
 use Rattle.kern_model.specs.KernelView.{value, pages_of}
@@ -9,11 +9,10 @@ use Rattle.tr_types.specs.declared.entry.Entry.TheVariants as entry
 use Rattle.tr_types.specs.declared.entry.Mark.{Mark}
 use Rattle.zo_model.specs.Alone.{IsAlone}
 use Rattle.zo_model.specs.CofferWords.{CofferAt, Rests}
-use Rattle.zo_model.specs.Coffers.{Coffer}
 use Rattle.zo_model.specs.Seats.{is_commit}
 use Rattle.zo_model.specs.Tree.{Member}
 use Rattle.tr_model.specs.RootCoffer.{root_coffer}
-use Rattle.tr_model.specs.Worlds.{World, Row, root_row, coffer_at, coffers_at, coffers_of, moved_trees, trees_of, stepped, IsTabled, HasWords, IsDenoted}
+use Rattle.tr_model.specs.Worlds.{World, Row, root_row, coffer_at, coffers_at, coffers_of, moved_trees, stepped, IsTabled, HasWords, IsDenoted}
 use Rattle.tr_dispatch.specs.Rooted.{IsAtRest}
 
 -- the root coffer by the words and the table

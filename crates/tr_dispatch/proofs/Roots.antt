@@ -1,5 +1,5 @@
 -- The world in which the root coffer is the only one: what users see of it, and what its words denote.
-use Rattle.std.proofs.Common.{◌≡◌, ◌⊎◌, inl, inr, ℕ, Bool, true, false, List, [], ◌∷◌, ◌++◌, map, Contains, if◌then◌else◌, refl, sym, ap, subst, ◌∙◌}
+use Rattle.std.proofs.Common.{◌≡◌, inl, inr, ℕ, Bool, true, false, List, [], ◌∷◌, ◌++◌, map, Contains, if◌then◌else◌, refl, sym, ap, subst, ◌∙◌}
 use Rattle.std.specs.Prelude.{Option, Some, None}
 use Rattle.std.specs.List.{IsDistinct}
 use Rattle.std.proofs.lemmas.Bool.{cond_both}
@@ -15,7 +15,7 @@ use Rattle.tr_types.specs.declared.command.Reply.{Reply}
 use Rattle.tr_types.specs.declared.command.Reply.TheVariants as reply
 use Rattle.tr_types.specs.declared.entry.Mark.{Mark}
 use Rattle.zo_model.specs.Alone.{root_coffer, root_cred}
-use Rattle.zo_model.specs.Answers.{Answered, Walk, Reaches, MissesName, MeetsFile, answer, consulted, told, make, made, path_of, is_too_long, is_denied, stands, walk, perm_of, state_of, read_right, write_right}
+use Rattle.zo_model.specs.Answers.{Answered, Walk, Reaches, MissesName, MeetsFile, answer, consulted, told, make, is_too_long, is_denied, stands, walk, perm_of, state_of, read_right, write_right}
 use Rattle.zo_model.specs.CofferWords.{Denotes}
 use Rattle.zo_model.specs.Coffers.{Content, Ready, Lost, Quarantined, Coffer, within, parent, path_text}
 use Rattle.zo_model.specs.Commands.{IsCommand}
@@ -27,7 +27,7 @@ use Rattle.zo_model.specs.Tree.{Member, Directory, FileOf, same_names}
 use Rattle.tr_types.specs.declared.permission.Cred.{Cred}
 use Rattle.tr_model.specs.RootCoffer.{IsRootAlone}
 use Rattle.tr_model.specs.RootCoffer.{root_coffer as kernel_root}
-use Rattle.tr_model.specs.Worlds.{World, Row, root_row, coffers_of, coffers_at, coffer_at, trees_after, tree_in, moved_trees, answered, HasWords, IsTabled, IsRowOf, IsDenoted}
+use Rattle.tr_model.specs.Worlds.{World, Row, root_row, coffers_of, coffers_at, trees_after, tree_in, moved_trees, answered, HasWords, IsTabled, IsRowOf, IsDenoted}
 use Rattle.tr_model.proofs.RootLemmas.{one_alone}
 use Rattle.tr_dispatch.specs.Rooted.{IsRooted, root_at}
 use Rattle.tr_dispatch.proofs.Members.{contains_here, contains_cases, contains_none}

@@ -1,7 +1,7 @@
 -- Rights and holders, where each row is a map of the root coffer that shuts nobody out.
-use Rattle.std.proofs.Common.{◌≡◌, ◌≢◌, ◌⊎◌, inl, inr, ℕ, ◌==◌, Bool, true, false, not, cond, ◌&&◌, ◌||◌, List, [], ◌∷◌, ◌++◌, map, filter, Contains, Option, Some, None, refl, sym, ap, subst, ◌∙◌, nat_eq}
+use Rattle.std.proofs.Common.{◌≡◌, ◌≢◌, ◌⊎◌, inl, inr, ℕ, ◌==◌, Bool, true, false, not, cond, ◌&&◌, ◌||◌, List, [], ◌∷◌, map, filter, Contains, Option, Some, None, refl, sym, ap, ◌∙◌}
 use Rattle.std.specs.List.{range_with_len}
-use Rattle.std.proofs.lemmas.Bool.{cases_eq, ne_eqb, eq-eqb, eqb-true, and_parts}
+use Rattle.std.proofs.lemmas.Bool.{cases_eq, ne_eqb, eq-eqb}
 use Rattle.std.proofs.lemmas.List.Elements.{Contains-append_left, Contains-push, Contains-push_cases}
 use Rattle.kern_model.specs.Rights.{process_of, is_same, are_together, holds_beside, key_in, is_writable, uses_key, is_free_key, free_keys, first_of, or_key, key_for, is_row_of, without_row, with_row, stands_against, those_against, holds_itself, allows_writing}
 use Rattle.tr_model.specs.RootCoffer.{holds_to_write}
@@ -38,8 +38,12 @@ together threads thread lives =
     let at = has_process threads thread lives in
     ap (λ (p : Option ℕ). is_same p p) at.1 ∙ eq-eqb at.0 at.0 refl
 
+or_true : (b : Bool) → (b || true) ≡ true
+or_true true = refl
+or_true false = refl
+
 -- The thread's own row.
-module _ (threads : List (ℕ × ℕ)) (thread : ℕ) (row : Holder) (own : row.thread ≡ thread) (id : row.id ≡ 1) where
+module _ (thread : ℕ) (row : Holder) (own : row.thread ≡ thread) (id : row.id ≡ 1) where
   row_is : is_row_of thread 1 row ≡ true
   row_is = ap (λ (b : Bool). b && (row.id == 1)) (eq-eqb row.thread thread own) ∙ eq-eqb row.id 1 id
 
@@ -48,10 +52,6 @@ module _ (threads : List (ℕ × ℕ)) (thread : ℕ) (row : Holder) (own : row.
   holds_own [] among = absurd (contains_none row among)
   holds_own (h ∷ holders) among = by (contains_cases h holders row among) (holds_own holders)
     where
-      or_true : (b : Bool) → (b || true) ≡ true
-      or_true true = refl
-      or_true false = refl
-
       by : (h ≡ row) ⊎ Contains holders row → (Contains holders row → holds_itself thread 1 holders ≡ true) → holds_itself thread 1 (h ∷ holders) ≡ true
       by (inl same) rest = ap (λ (b : Bool). b || holds_itself thread 1 holders) (ap (is_row_of thread 1) same ∙ row_is)
       by (inr later) rest = ap (λ (b : Bool). is_row_of thread 1 h || b) (rest later) ∙ or_true (is_row_of thread 1 h)
@@ -61,10 +61,6 @@ module _ (threads : List (ℕ × ℕ)) (thread : ℕ) (row : Holder) (own : row.
   writes_own writes [] among = absurd (contains_none row among)
   writes_own writes (h ∷ holders) among = by (contains_cases h holders row among) (writes_own writes holders)
     where
-      or_true : (b : Bool) → (b || true) ≡ true
-      or_true true = refl
-      or_true false = refl
-
       here : (is_row_of thread 1 row && allows_writing row.right) ≡ true
       here = ap (λ (b : Bool). b && allows_writing row.right) row_is ∙ writes
 
@@ -72,7 +68,7 @@ module _ (threads : List (ℕ × ℕ)) (thread : ℕ) (row : Holder) (own : row.
       by (inl same) rest = ap (λ (b : Bool). b || holds_to_write thread 1 holders) (ap (λ (x : Holder). is_row_of thread 1 x && allows_writing x.right) same ∙ here)
       by (inr later) rest = ap (λ (b : Bool). (is_row_of thread 1 h && allows_writing h.right) || b) (rest later) ∙ or_true (is_row_of thread 1 h && allows_writing h.right)
 
-  module _ (with_itself : are_together threads thread thread ≡ true) where
+  module _ (threads : List (ℕ × ℕ)) (with_itself : are_together threads thread thread ≡ true) where
     beside : holds_beside threads thread 1 row ≡ true
     beside =
         ap (λ (b : Bool). b && are_together threads row.thread thread) (eq-eqb row.id 1 id)
@@ -93,10 +89,6 @@ module _ (threads : List (ℕ × ℕ)) (thread : ℕ) (row : Holder) (own : row.
     writable_own writes [] among = absurd (contains_none row among)
     writable_own writes (h ∷ holders) among = by (contains_cases h holders row among) (writable_own writes holders)
       where
-        or_true : (b : Bool) → (b || true) ≡ true
-        or_true true = refl
-        or_true false = refl
-
         here : (holds_beside threads thread 1 row && allows_writing row.right) ≡ true
         here = ap (λ (b : Bool). b && allows_writing row.right) beside ∙ writes
 
@@ -155,15 +147,14 @@ nobody_against thread (h ∷ holders) all =
     stands = ap (λ (b : Bool). (h.id == 1) && not (h.thread == thread) && (b || false)) (first_row h holders all).shared ∙ never (h.id == 1) (not (h.thread == thread))
 
 -- The rows after a map, and after its end.
-module _ (thread : ℕ) (h : Holder) (own : h.thread ≡ thread) (id : h.id ≡ 1) (holders : List Holder) where
-  pub row_comes : Contains (with_row h holders) h
-  row_comes = Contains-push (without_row h.thread h.id holders) h
+pub row_comes : (h : Holder) (holders : List Holder) → Contains (with_row h holders) h
+row_comes h holders = Contains-push (without_row h.thread h.id holders) h
 
-  pub rows_were : (row : Holder) → Contains (with_row h holders) row → Contains holders row ⊎ (h ≡ row)
-  rows_were row among = elim (Contains-push_cases (without_row h.thread h.id holders) h row among) [
-    | inl before ↦ inl (left_was (λ x. not (is_row_of h.thread h.id x)) holders row before)
-    | inr same ↦ inr same
-  ]
+pub rows_were : (h : Holder) (holders : List Holder) (row : Holder) → Contains (with_row h holders) row → Contains holders row ⊎ (h ≡ row)
+rows_were h holders row among = elim (Contains-push_cases (without_row h.thread h.id holders) h row among) [
+  | inl before ↦ inl (left_was (λ x. not (is_row_of h.thread h.id x)) holders row before)
+  | inr same ↦ inr same
+]
 
 other_passes : (thread coffer : ℕ) (row : Holder) → row.thread ≢ thread → not (is_row_of thread coffer row) ≡ true
 other_passes thread coffer row other = ap (λ (b : Bool). not (b && (row.id == coffer))) (ne_eqb row.thread thread other)

@@ -1,21 +1,21 @@
 -- A step in the window is one of the scene of the root coffer: the rights permit what the call asks for there, the machine
 -- answers it by the words alone, and leaves what the scene says.
-use Rattle.std.proofs.Common.{◌≡◌, ◌≢◌, ◌⊎◌, inl, inr, ℕ, ◌+◌, ◌/◌, ◌%◌, ◌<◌, ◌≤◌, ltb, List, [], ◌∷◌, length, take, map, Bool, true, false, ◌&&◌, ◌||◌, cond, Contains, Option, Some, None, refl, ap, sym, subst, ◌∙◌, arith, All, slice_index_or}
+use Rattle.std.proofs.Common.{◌≡◌, ◌≢◌, ◌⊎◌, inl, inr, ℕ, ◌/◌, ◌%◌, ◌<◌, ◌≤◌, ltb, List, [], length, take, map, Bool, true, false, ◌&&◌, cond, Option, Some, None, refl, ap, sym, subst, ◌∙◌, arith, slice_index_or}
 use Rattle.std.proofs.lemmas.Bool.{cases_eq, eq-eqb, ne_eqb, lt-ltb}
 use Rattle.std.proofs.lemmas.List.{length-take-le}
 use Rattle.std.proofs.lemmas.List.Elements.{All-contains}
 use Rattle.pm_words.specs.Word.{Word, settled}
-use Rattle.pm_words.specs.Memory.{store_at, word_at}
+use Rattle.pm_words.specs.Memory.{store_at}
 use Rattle.pm_words.proofs.WordLemmas.{length_store_at, word_at_stored, other_place}
-use Rattle.zo_layout.specs.Layout.{page_at, word_of, kernel_pages, owner_word, root_control, root_page}
+use Rattle.zo_layout.specs.Layout.{page_at, word_of, kernel_pages, root_control, root_page}
 use Rattle.bus_model.specs.Machine.{Bus, Answers, pkru_of, is_word, load_refusal, store_refusal, callers_of, acted, held, registered}
 use Rattle.kern_model.specs.Given.{IsGivenTo, EnlargeLeaves}
 use Rattle.kern_model.specs.Kernel.{kernel_owner, coffer_pages}
 use Rattle.kern_model.specs.KernelCalls.{words_after, answer_of}
 use Rattle.kern_model.specs.KernelView.{value, pages_of, owner_of, free_pages}
-use Rattle.kern_model.specs.Rights.{are_together, key_in, is_writable, load_fault, store_fault, load_fault_by, store_fault_by, allows_writing, closed_pkru}
+use Rattle.kern_model.specs.Rights.{are_together, key_in, load_fault, store_fault, load_fault_by, store_fault_by, allows_writing}
 use Rattle.tr_types.specs.declared.action.Action.{Action}
-use Rattle.tr_types.specs.declared.action.Action.TheVariants.{Load, Store, Cas, Flush, Fence, Pkru, Kernel}
+use Rattle.tr_types.specs.declared.action.Action.TheVariants.{Load, Store, Kernel}
 use Rattle.tr_types.specs.declared.action.Answer.{Answer}
 use Rattle.tr_types.specs.declared.action.Answer.TheVariants.{Word as WordIs, Done, Fault, Kern}
 use Rattle.tr_types.specs.declared.action.FaultKind.TheVariants.{NotMapped, KeyDenied}
@@ -30,7 +30,7 @@ use Rattle.tr_types.specs.declared.kernel_call.KernAnswer.TheVariants as kern
 use Rattle.zo_model.specs.Coffers.{names_below}
 use Rattle.zo_model.specs.Commands.{IsCommand}
 use Rattle.zo_model.specs.Seats.{Seat, seat_after}
-use Rattle.zo_model.specs.Steps.{Scene, IsCofferWord, MayStore, IsReachable, AnswersCall, AreGiven, HasDrawn, LeavesWords, Leaves, put}
+use Rattle.zo_model.specs.Steps.{Scene, IsCofferWord, MayStore, IsReachable, HasDrawn, LeavesWords, Leaves, put}
 use Rattle.zo_model.specs.Steps.{Answers as SceneAnswers}
 use Rattle.tr_model.specs.RootCoffer.{EnlargeAnswers, holds_to_write}
 use Rattle.tr_model.specs.RootCoffer.{root_coffer}
@@ -39,6 +39,7 @@ use Rattle.tr_model.proofs.RootLemmas.{enlarge_answers, enlarge_held, enlarge_le
 use Rattle.tr_dispatch.specs.Rooted.{HasKernel, IsRooted, root_at, scene_of}
 use Rattle.tr_dispatch.specs.Sessions.{Sits, HasMapped, row_of, open_pkru, writes, right_of}
 use Rattle.tr_dispatch.proofs.Kernels.{owns_kernel, page_owned, page_past, owner_is, kernel_stored, pages_stored, kernel_given, new_count, word_same, page_kept, page_given, page_only, page_apart, given_once}
+use Rattle.tr_dispatch.proofs.Reached.{by_reached}
 use Rattle.tr_dispatch.proofs.Register.{first_reads, first_writes}
 use Rattle.tr_dispatch.proofs.Roots.{coffers_moved}
 use Rattle.tr_dispatch.proofs.Rows.{together, key_own, writable_own, writes_own}
@@ -118,7 +119,7 @@ module _ (w : World) (thread : ℕ) (command : Command) (seat : Seat) (key : ℕ
   word_is addr is = ap (λ (b : Bool). b && ltb (addr / 8) (length bus.words)) (eq-eqb (addr % 8) 0 is.aligned) ∙ lt-ltb (addr / 8) (length bus.words) (inside addr is)
 
   key_is : key_in bus.threads bus.holders thread 1 ≡ Some 1
-  key_is = key_own bus.threads thread (row_of thread command key) refl refl alone bus.holders rooted.rows mapped.held
+  key_is = key_own thread (row_of thread command key) refl refl bus.threads alone bus.holders rooted.rows mapped.held
 
   -- a load of the coffer's word is permitted
   load_permitted : (addr : ℕ) → IsCofferWord (root_at w) addr → load_refusal bus thread addr ≡ None
@@ -144,12 +145,12 @@ module _ (w : World) (thread : ℕ) (command : Command) (seat : Seat) (key : ℕ
   store_permitted may addr is =
       ap (λ (b : Bool). cond b (store_fault bus.threads bus.holders thread (pkru_of bus thread) (kernel_owner bus.words (addr / 4096))) (Some NotMapped)) (word_is addr is)
       ∙ (λ i. store_fault bus.threads bus.holders thread (register i) (owned addr is i))
-      ∙ (λ i. store_fault_by (key_is i) (writable_own bus.threads thread (row_of thread command key) refl refl alone (allows command may) bus.holders mapped.held i) (open_pkru command 1))
+      ∙ (λ i. store_fault_by (key_is i) (writable_own thread (row_of thread command key) refl refl bus.threads alone (allows command may) bus.holders mapped.held i) (open_pkru command 1))
       ∙ opened_to_write command may
 
   -- and the thread may ask for pages
   held_to_write : MayStore command → holds_to_write thread 1 bus.holders ≡ true
-  held_to_write may = writes_own bus.threads thread (row_of thread command key) refl refl (allows command may) bus.holders mapped.held
+  held_to_write may = writes_own thread (row_of thread command key) refl refl (allows command may) bus.holders mapped.held
 
   module _ (now : ℕ) (mark : Mark) where
     loaded : (addr : ℕ) → IsCofferWord (root_at w) addr → (given : Answer) → Answers bus thread now (Load addr) given → Bridged w thread seat now mark (Load addr) given
@@ -270,29 +271,13 @@ module _ (w : World) (thread : ℕ) (command : Command) (seat : Seat) (key : ℕ
         asked (Fault kind) a = absurd a
         asked (Kern r) a = enlarged r (subst (EnlargeAnswers bus thread 1 count) (sym a) (enlarge_answers bus thread now 1 count kernel.alone.idle.present)) a
 
-    called : (call : Kcall) → IsReachable s (Kernel call) → (given : Answer) → Answers bus thread now (Kernel call) given → Bridged w thread seat now mark (Kernel call) given
-    called (kcall.Find path also) reached = absurd reached
-    called (kcall.Map path right exclusive) reached = absurd reached
-    called (kcall.Unmap id) reached = absurd reached
-    called (kcall.New parent path kind mode link guard) reached = absurd reached
-    called (kcall.Delete id parent link guard) reached = absurd reached
-    called (kcall.Enlarge id count) reached =
+    asked_for : (id count : ℕ) → IsReachable s (Kernel (kcall.Enlarge id count)) → (given : Answer) → Answers bus thread now (Kernel (kcall.Enlarge id count)) given → Bridged w thread seat now mark (Kernel (kcall.Enlarge id count)) given
+    asked_for id count reached =
         subst (λ (i : ℕ). (given : Answer) → Answers bus thread now (Kernel (kcall.Enlarge i count)) given → Bridged w thread seat now mark (Kernel (kcall.Enlarge i count)) given) (sym reached.1)
         (asked count (stores reached.0) reached.2 reached.3)
-    called (kcall.Shrink id pages guard) reached = absurd reached
-    called (kcall.Split id path pages mode link guard) reached = absurd reached
-    called (kcall.Merge child parent pages link guard) reached = absurd reached
-    called (kcall.Mode id mode) reached = absurd reached
-    called (kcall.Recover id ready) reached = absurd reached
 
     pub bridged : (action : Action) → IsReachable s action → (given : Answer) → Answers bus thread now action given → Bridged w thread seat now mark action given
-    bridged (Load addr) reached = loaded addr reached
-    bridged (Store addr x) reached = stored (stores reached.0) addr x reached.1
-    bridged (Cas addr old new) reached = absurd reached
-    bridged (Flush addr) reached = absurd reached
-    bridged Fence reached = absurd reached
-    bridged (Pkru pkru) reached = absurd reached
-    bridged (Kernel call) reached = called call reached
+    bridged = by_reached s (λ a. (given : Answer) → Answers bus thread now a given → Bridged w thread seat now mark a given) loaded (λ addr x may word. stored (stores may) addr x word) asked_for
 
     -- all that a step leaves of the scene
     pub leaves : (action : Action) (given : Answer) → Bridged w thread seat now mark action given

@@ -1,5 +1,5 @@
 -- The world after an action of a thread, as the thread and the others see it.
-use Rattle.std.proofs.Common.{◌≡◌, ◌≢◌, ◌⊎◌, inl, inr, ℕ, ◌<◌, List, length, Bool, true, false, cond, Contains, Option, Some, None, refl, ap, sym, subst, ◌∙◌, get_or-set_same, get_or-set_other, slice_index_or, slice_set}
+use Rattle.std.proofs.Common.{◌≡◌, ◌≢◌, ◌⊎◌, inl, inr, ℕ, ◌<◌, List, length, Bool, false, cond, Contains, Option, Some, None, refl, ap, sym, subst, ◌∙◌, get_or-set_same, get_or-set_other, slice_index_or, slice_set}
 use Rattle.std.proofs.lemmas.Bool.{cases_eq, eq-eqb, ne_eqb}
 use Rattle.std.proofs.lemmas.List.{length-set}
 use Rattle.bus_model.specs.Machine.{Bus, pkru_of, registered}
@@ -20,10 +20,10 @@ use Rattle.tr_model.specs.Worlds.{World, put, pool_of, seated, moved_verdict, co
 use Rattle.tr_dispatch.specs.Sessions.{Sits, IsBare, HasFound, row_of, open_pkru, writes}
 use Rattle.tr_dispatch.proofs.Register.{shut, shut_stores, only_first, only_loads}
 
-put_same : {X : Type 0} (at : ℕ → X) (thread : ℕ) (x : X) → put at thread x thread ≡ x
+pub put_same : {X : Type 0} (at : ℕ → X) (thread : ℕ) (x : X) → put at thread x thread ≡ x
 put_same at thread x = ap (λ (b : Bool). cond b x (at thread)) (eq-eqb thread thread refl)
 
-put_other : {X : Type 0} (at : ℕ → X) (thread : ℕ) (x : X) (other : ℕ) → other ≢ thread → put at thread x other ≡ at other
+pub put_other : {X : Type 0} (at : ℕ → X) (thread : ℕ) (x : X) (other : ℕ) → other ≢ thread → put at thread x other ≡ at other
 put_other at thread x other ne = ap (λ (b : Bool). cond b x (at other)) (ne_eqb other thread ne)
 
 -- as many registers as before, and those of other threads as they were

@@ -24,7 +24,6 @@ use Rattle.tr_model.specs.Marks.{IsMarked}
 use Rattle.tr_model.specs.OneWindow.{IsKey, IsWindowed, FindsShut, MapsFound}
 use Rattle.tr_model.specs.RootCoffer.{found_at, root_mapped}
 use Rattle.tr_model.specs.Worlds.{World, stepped, coffers_at, IsLegal, IsDisciplined, IsDenoted}
-use Rattle.zo_ops.specs.declared.op.OpRun.{OpRun}
 use Rattle.zo_ops.specs.Knows.{OpKnows}
 use Rattle.tr_dispatch.specs.Rooted.{IsRooted, IsAtRest, scene_of}
 use Rattle.tr_dispatch.specs.declared.session.Session.{Session}
