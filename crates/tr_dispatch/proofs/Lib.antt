@@ -22,3 +22,5 @@ pub mod Quiet
 pub mod Exits
 -- what a begun call knows, and where knowledge stays
 pub mod SessionLaws
+-- the world as it opens over a new image
+pub mod Opening
