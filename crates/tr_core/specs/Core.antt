@@ -1,6 +1,6 @@
 -- What callers see of a core, and what each call answers and leaves, by cases on the answer. A fault but NoMemory leaves all
 -- as it was. After NoMemory the trace is as it was, and each later call answers NoMemory.
-use Rattle.std.specs.Prelude.{◌≡◌, ◌≢◌, ℕ, ◌<◌, ◌≤◌, List, [], ◌∷◌, ◌++◌, length, Bool, true, false, Option, Some, None, IsSome, is_none, Result, Ok, Err}
+use Rattle.std.specs.Prelude.{◌≡◌, ◌≢◌, ℕ, ◌<◌, ◌≤◌, List, [], ◌∷◌, ◌++◌, length, slice_get, Bool, true, false, Option, Some, None, IsSome, is_none, Result, Ok, Err}
 use Rattle.pm_words.specs.Word.{Word}
 use Rattle.pm_words.specs.Memory.{all_durable}
 use Rattle.kern_model.specs.NewImage.{new_image}
@@ -18,17 +18,25 @@ use Rattle.tr_core.specs.declared.event.FaultEvent.{FaultEvent}
 use Rattle.tr_core.specs.declared.event.FaultEvent.TheVariants as event
 use Rattle.tr_core.specs.declared.fault.CoreFault.{CoreFault}
 use Rattle.tr_core.specs.declared.fault.CoreFault.TheVariants.{NoThread, Idle, Running, Full, NoMemory}
-use Rattle.tr_core.specs.declared.core.Turned.{Turned}
+use Rattle.tr_core.specs.declared.run.Turned.{Turned}
 use Rattle.tr_core.specs.Traces.{world_after}
 
 pub record CoreView : Type 0 where
   -- the words of the image over which it opened
   pub opening : List ℕ
   pub trace : List Entry
-  -- the mark of each thread's next action; Plain where its reply comes next, none where it has no call
-  pub due : ℕ → Option Mark
+  -- for each thread, the mark of its next action; Plain where its reply comes next, none where it has no call
+  pub marks : List (Option Mark)
   -- memory ran out in an earlier call
   pub failed : Bool
+
+abbrev pub due_in : Option (Option Mark) → Option Mark
+due_in None = None
+due_in (Some due) = due
+
+-- the mark of a thread's next action
+abbrev pub due_at : CoreView → ℕ → Option Mark
+due_at c thread = due_in (slice_get c.marks thread)
 
 -- the world after its trace
 abbrev pub world_at : CoreView → World
@@ -42,7 +50,7 @@ HasThread c thread = ThreadWasStarted (world_at c).base.machine.bus thread
 
 -- no thread has a call
 abbrev pub IsQuiet : CoreView → Type 0
-IsQuiet c = (thread : ℕ) → c.due thread ≡ None
+IsQuiet c = (thread : ℕ) → due_at c thread ≡ None
 
 -- an entry may have this tick
 abbrev pub IsDueAt : CoreView → ℕ → Type 0
@@ -61,7 +69,7 @@ abbrev pub MayHappen : CoreView → FaultEvent → Type 0
 MayHappen c (event.Mkfs pages) = (c.trace ≡ []) × (c.opening ≡ new_image pages)
 MayHappen c (event.Process process cred) = (process < PROCESSES) × (HasProcess c process → ⊥) × (cred ≡ root_cred)
 MayHappen c (event.Thread thread process) = (thread < THREADS) × (HasThread c thread → ⊥)
-MayHappen c (event.Stray thread addr word) = c.due thread ≡ None
+MayHappen c (event.Stray thread addr word) = due_at c thread ≡ None
 
 -- what an event names was started
 abbrev pub IsNamed : CoreView → FaultEvent → Type 0
@@ -111,10 +119,10 @@ IsFull c = TRACE_LIMIT ≤ length c.trace
 -- a command was given to a thread
 abbrev pub GivesAs : CoreView → CoreView → ℕ → Command → Result Unit CoreFault → Type 0
 GivesAs old new thread command (Ok done) =
-    Adds old new (entry.Call thread command) × HasThread old thread × (old.due thread ≡ None) × ((mark : Mark) × (new.due ≡ put old.due thread (Some mark)))
+    Adds old new (entry.Call thread command) × HasThread old thread × (due_at old thread ≡ None) × ((mark : Mark) × ((t : ℕ) → due_at new t ≡ put (due_at old) thread (Some mark) t))
 GivesAs old new thread command (Err NoThread) = IsRefused old new × (HasThread old thread → ⊥)
-GivesAs old new thread command (Err Running) = IsRefused old new × HasThread old thread × IsSome (old.due thread)
-GivesAs old new thread command (Err Full) = IsRefused old new × HasThread old thread × (old.due thread ≡ None) × IsFull old
+GivesAs old new thread command (Err Running) = IsRefused old new × HasThread old thread × IsSome (due_at old thread)
+GivesAs old new thread command (Err Full) = IsRefused old new × HasThread old thread × (due_at old thread ≡ None) × IsFull old
 GivesAs old new thread command (Err NoMemory) = HasFailed old new
 GivesAs old new thread command (Err fault) = ⊥
 
@@ -124,18 +132,18 @@ pub record IsTurned (old new : CoreView) (thread now : ℕ) (turned : Turned) : 
   pub adds : Adds old new e
   pub started : HasThread old thread
   pub mark : Mark
-  pub was_due : old.due thread ≡ Some mark
+  pub was_due : due_at old thread ≡ Some mark
   pub turn : IsTurnOf thread now mark turned.ended e
   pub position : turned.position ≡ length new.trace
-  pub others : (t : ℕ) → t ≢ thread → new.due t ≡ old.due t
-  pub ended : is_none (new.due thread) ≡ turned.ended
+  pub others : (t : ℕ) → t ≢ thread → due_at new t ≡ due_at old t
+  pub ended : is_none (due_at new thread) ≡ turned.ended
 
 -- a thread's call makes a turn
 abbrev pub TurnsAs : CoreView → CoreView → ℕ → ℕ → Result Turned CoreFault → Type 0
 TurnsAs old new thread now (Ok turned) = IsTurned old new thread now turned
 TurnsAs old new thread now (Err NoThread) = IsRefused old new × (HasThread old thread → ⊥)
-TurnsAs old new thread now (Err Idle) = IsRefused old new × HasThread old thread × (old.due thread ≡ None)
-TurnsAs old new thread now (Err Full) = IsRefused old new × HasThread old thread × IsSome (old.due thread) × IsFull old
+TurnsAs old new thread now (Err Idle) = IsRefused old new × HasThread old thread × (due_at old thread ≡ None)
+TurnsAs old new thread now (Err Full) = IsRefused old new × HasThread old thread × IsSome (due_at old thread) × IsFull old
 TurnsAs old new thread now (Err NoMemory) = HasFailed old new
 TurnsAs old new thread now (Err fault) = ⊥
 
@@ -145,7 +153,7 @@ pub record IsHappened (old new : CoreView) (event : FaultEvent) : Type 0 where
   pub adds : Adds old new e
   pub named : IsNamed old event
   pub of : IsOfEvent event e
-  pub due : new.due ≡ old.due
+  pub due : (t : ℕ) → due_at new t ≡ due_at old t
 
 abbrev pub HappensAs : CoreView → CoreView → FaultEvent → Result Unit CoreFault → Type 0
 HappensAs old new event (Ok done) = IsHappened old new event

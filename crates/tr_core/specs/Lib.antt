@@ -6,3 +6,5 @@ pub mod Traces
 pub mod Core
 -- how a core stands between two calls
 pub mod Standing
+-- what a core does on its machine and trace
+pub mod Steps

@@ -1,23 +1,21 @@
 -- How a core stands between two calls: its machine is that of its trace, each call that is under way waits with its next
 -- step ready, and all other threads hold nothing. As long as calls don't cross, one is under way at most.
-use Rattle.std.specs.Prelude.{◌≡◌, ℕ, List, [], Option, Some, None, false}
-use Rattle.bus_model.specs.Machine.{Bus, Machine, ThreadWasStarted, HasRegisters}
+use Rattle.std.specs.Prelude.{◌≡◌, ℕ, List, [], Contains, Option, Some, None, false}
+use Rattle.bus_model.specs.Machine.{Bus, Machine, ProcessWasStarted, HasRegisters}
 use Rattle.bus_machine.specs.View.{MachineView}
 use Rattle.tr_types.specs.declared.action.Answer.{Answer}
-use Rattle.tr_types.specs.declared.entry.Entry.{Entry}
 use Rattle.tr_types.specs.declared.entry.Mark.{Mark}
 use Rattle.tr_types.specs.declared.entry.Mark.TheVariants.{Plain}
 use Rattle.tr_types.specs.declared.permission.Cred.{Cred}
 use Rattle.zo_model.specs.Alone.{root_cred}
 use Rattle.tr_model.specs.OneWindow.{IsWindowed}
-use Rattle.tr_model.specs.Worlds.{World, IsDenoted, cred_of}
+use Rattle.tr_model.specs.Worlds.{World, IsDenoted}
 use Rattle.tr_dispatch.specs.Rooted.{IsRooted, IsAtRest}
 use Rattle.tr_dispatch.specs.Sessions.{IsBare, KnowsAt, LeadsTo, RunsOn, GivesAction}
 use Rattle.tr_dispatch.specs.declared.session.SessionStep.{SessionStep}
 use Rattle.tr_dispatch.specs.declared.session.SessionStep.TheVariants as step
 use Rattle.tr_dispatch.specs.declared.session.Stage.{Stage}
 use Rattle.tr_core.specs.declared.calls.Waiting.{Waiting}
-use Rattle.tr_core.specs.Traces.{IsTraceOf, world_after}
 
 -- the mark of a step
 abbrev pub mark_of : SessionStep → Mark
@@ -50,16 +48,22 @@ pub record IsTimeless (m : Machine) : Type 0 where
   pub latest : m.latest ≡ 0
   pub ended : m.ended ≡ []
 
-pub record Stands (opening : List ℕ) (trace : List Entry) (m : MachineView) (calls : ℕ → Option Waiting) : Type 0 where
+-- all users are uid 0, and each thread is of a process that was started
+pub record AreRoots (bus : Bus) : Type 0 where
+  pub creds : (process : ℕ) (cred : Cred) → Contains bus.processes (process, cred) → cred ≡ root_cred
+  pub housed : (thread process : ℕ) → Contains bus.threads (thread, process) → ProcessWasStarted bus process
+
+-- how a core stands, whose trace has come to this world
+pub record Stands (w : World) (m : MachineView) (calls : ℕ → Option Waiting) : Type 0 where
   pub works : m.failed ≡ false
-  pub bus : m.bus ≡ (world_after opening trace).base.machine.bus
-  pub rooted : IsRooted (world_after opening trace)
-  pub denoted : IsDenoted (world_after opening trace)
-  pub windowed : IsWindowed (world_after opening trace)
-  pub registers : HasRegisters m.bus
-  pub timeless : IsTimeless (world_after opening trace).base.machine
-  pub users : (thread : ℕ) → ThreadWasStarted m.bus thread → cred_of m.bus thread ≡ Some root_cred
-  pub each : (thread : ℕ) → StandsAs (world_after opening trace) thread (calls thread)
+  pub bus : m.bus ≡ w.base.machine.bus
+  pub rooted : IsRooted w
+  pub denoted : IsDenoted w
+  pub windowed : IsWindowed w
+  pub registers : HasRegisters w.base.machine.bus
+  pub timeless : IsTimeless w.base.machine
+  pub users : AreRoots w.base.machine.bus
+  pub each : (thread : ℕ) → StandsAs w thread (calls thread)
   -- one call at most is under way, and where none is, all is at rest
   pub alone : (t u : ℕ) (one other : Waiting) → calls t ≡ Some one → calls u ≡ Some other → t ≡ u
-  pub rests : ((thread : ℕ) → calls thread ≡ None) → IsAtRest (world_after opening trace)
+  pub rests : ((thread : ℕ) → calls thread ≡ None) → IsAtRest w

@@ -1,7 +1,7 @@
 -- Which traces a core has: each entry may come at the world that those before it leave, is marked as its action is, is
 -- legal and keeps our discipline, leaves words that denote the tree and one window at most for each thread, and changes
 -- words only as the rights permit.
-use Rattle.std.specs.Prelude.{◌≡◌, ℕ, ◌≤◌, List, All, Contains, length}
+use Rattle.std.specs.Prelude.{◌≡◌, ℕ, ◌≤◌, List, Contains, length}
 use Rattle.tr_types.specs.Fold.{Each, state_after}
 use Rattle.tr_types.specs.declared.entry.Entry.{Entry}
 use Rattle.tr_model.specs.Marks.{IsMarkedEntry}
@@ -22,7 +22,7 @@ pub record IsRight (w : World) (e : Entry) : Type 0 where
 pub record IsTraceOf (opening : List ℕ) (trace : List Entry) : Type 0 where
   pub allowed : Each stepped MayCome (world_of opening) trace
   pub in_call : Each stepped IsInCall (world_of opening) trace
-  pub marked : (e : Entry) → Contains trace e → IsMarkedEntry e
+  pub marked : Each stepped (λ w e. IsMarkedEntry e) (world_of opening) trace
   pub right : Each stepped IsRight (world_of opening) trace
   pub windows : Each stepped LeavesWindows (world_of opening) trace
   pub confined : Each stepped IsConfined (world_of opening) trace

@@ -1,12 +1,12 @@
 // The calls that are under way, a place for each thread.
-ghost use Rattle.std.specs.Prelude.{◌≡◌, ◌<◌, None, Some, IfOk};
+ghost use Rattle.std.specs.Prelude.{◌≡◌, ℕ, ◌<◌, None, IfOk};
 ghost use Rattle.std.specs.Option.{option_copied};
 ghost use Rattle.tr_types.specs.declared.limits.TheConstants.{THREADS as MOST};
 ghost use Rattle.tr_model.specs.Worlds.{put};
+ghost use Rattle.tr_core.specs.Places.{place_in};
 
 use std::alloc::{AllocError, Global};
 use std::marker::Model;
-use std::mem;
 use tr_dispatch::{Session, SessionStep};
 use tr_types::THREADS;
 
@@ -25,14 +25,13 @@ pub struct Calls {
 }
 
 impl Model for Calls {
-    ghost use Rattle.std.specs.Prelude.{◌≡◌, ℕ, Option, length};
+    ghost use Rattle.std.specs.Prelude.{◌≡◌, List, Option, length};
     ghost use Rattle.tr_types.specs.declared.limits.TheConstants.{THREADS as MOST};
     ghost use Rattle.tr_core.specs.declared.calls.Waiting.{Waiting};
-    ghost use Rattle.tr_core.specs.Places.{place_in};
 
-    ghost Value = { ℕ → Option Waiting };
+    ghost Value = { List (Option Waiting) };
 
-    ghost view = { λ c. place_in c.places.items };
+    ghost view = { λ c. c.places.items };
 
     ghost invariant = { λ c. length c.places.items ≡ MOST };
 }
@@ -40,7 +39,7 @@ impl Model for Calls {
 impl Calls {
     /// No thread has a call.
     pub fn new(alloc: Global) -> Result<Calls, AllocError>
-        ensures { IfOk result (λ calls. calls ≡ (λ _. None)) }
+        ensures { IfOk result (λ calls. (thread : ℕ) → place_in calls thread ≡ None) }
     {
         let mut places = Vec::with_capacity(alloc, usize::from(THREADS))?;
         for _ in 0..THREADS {
@@ -51,24 +50,25 @@ impl Calls {
 
     /// The call of a thread.
     pub fn of(&self, thread: u16) -> Option<&Waiting>
-        ensures { option_copied result ≡ self.now thread }
+        ensures { option_copied result ≡ place_in self.now thread }
     {
         self.places.get(usize::from(thread))?.as_ref()
     }
 
-    /// Takes a thread's call out.
+    /// Takes a thread's call out, if it has one.
     pub fn take(&mut self, thread: u16) -> Option<Waiting>
-        ensures taken { result ≡ self.old thread }
-        ensures left { self.new ≡ put self.old thread None }
+        requires { thread < MOST }
+        ensures taken { result ≡ place_in self.old thread }
+        ensures left { (t : ℕ) → place_in self.new t ≡ put (place_in self.old) thread None t }
     {
-        self.places.get_mut(usize::from(thread))?.take()
+        self.places[usize::from(thread)].take()
     }
 
-    /// Gives a thread a call, in place of the one that it has.
-    pub fn put(&mut self, thread: u16, waiting: Waiting)
+    /// Gives a thread a call, or none, in place of what it has.
+    pub fn set(&mut self, thread: u16, waiting: Option<Waiting>)
         requires { thread < MOST }
-        ensures { self.new ≡ put self.old thread (Some waiting) }
+        ensures { (t : ℕ) → place_in self.new t ≡ put (place_in self.old) thread waiting t }
     {
-        self.places[usize::from(thread)] = Some(waiting);
+        self.places[usize::from(thread)] = waiting;
     }
 }

@@ -2,12 +2,13 @@
 #![tactic(auto)]
 
 mod calls;
-mod core;
 mod event;
 mod fault;
 mod limits;
+mod run;
+mod steps;
 
-pub use core::{Core, Turned};
 pub use event::FaultEvent;
 pub use fault::CoreFault;
 pub use limits::TRACE_LIMIT;
+pub use run::{Core, Turned};

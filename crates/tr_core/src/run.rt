@@ -1,22 +1,23 @@
 // A core: what a run has come to.
-ghost use Rattle.std.specs.Prelude.{◌≡◌, ◌↔◌, ◌≤◌, ◌<◌, ◌++◌, ◌∷◌, [], None, IfOk, OnOk, OnErr, IsTrue, false};
+ghost use Rattle.std.specs.Prelude.{◌≡◌, ◌<◌, [], length, IfOk, IsSome, OnErr, MatchResult, Ok, false, true};
 ghost use Rattle.std.specs.Result.{IsErrOf};
 ghost use Rattle.pm_words.specs.Memory.{all_durable};
 ghost use Rattle.zo_model.specs.Commands.{IsCommand};
 ghost use Rattle.tr_core.specs.Traces.{IsTraceOf};
-ghost use Rattle.tr_core.specs.Core.{IsNew, IsQuiet, IsDueAt, MayHappen, GivesAs, TurnsAs, HappensAs, world_at};
+ghost use Rattle.tr_core.specs.declared.limits.TheConstants.{TRACE_LIMIT};
+ghost use Rattle.tr_core.specs.Core.{GivesAs, HappensAs, HasFailed, HasThread, IsDueAt, IsFull, IsHappened, IsNamed, IsNew, IsQuiet, IsTurned, MayHappen, TurnsAs, due_at, world_at};
 
-use crate::calls::{Calls, Waiting};
+use crate::calls::Calls;
 use crate::event::FaultEvent;
 use crate::fault::CoreFault;
-use crate::limits::TRACE_LIMIT;
-use bus_machine::{BusFault, Machine, MountFault, open_law};
+use crate::limits;
+use crate::steps::{begin, happen, step};
+use bus_machine::{Machine, MountFault, open_law};
 use pm_words::{Image, Words};
-use sqlite_items::Boxed;
-use std::alloc::{AllocError, Global};
+use std::alloc::Global;
 use std::marker::Model;
-use tr_dispatch::{Session, SessionStep};
-use tr_types::{Action, Command, Cred, Entry, Mark, Reply, Trace};
+use tr_dispatch::SessionStep;
+use tr_types::{Command, Mark, Trace};
 
 /// What a turn was.
 #[derive(Clone, Copy, Debug, PartialEq, Eq)]
@@ -43,16 +44,17 @@ pub struct Core {
 }
 
 impl Model for Core {
-    ghost use Rattle.std.specs.Prelude.{◌≡◌, ◌×◌, false};
+    ghost use Rattle.std.specs.Prelude.{◌≡◌, map, false};
     ghost use Rattle.tr_core.specs.Core.{CoreView};
+    ghost use Rattle.tr_core.specs.Places.{place_in};
     ghost use Rattle.tr_core.specs.Standing.{Stands, due_of};
-    ghost use Rattle.tr_core.specs.Traces.{IsTraceOf};
+    ghost use Rattle.tr_core.specs.Traces.{IsTraceOf, world_after};
 
     ghost Value = { CoreView };
 
-    ghost view = { λ c. record { opening = c.opening; trace = c.trace; due = λ thread. due_of (c.calls thread); failed = c.failed } };
+    ghost view = { λ c. record { opening = c.opening; trace = c.trace; marks = map due_of c.calls; failed = c.failed } };
 
-    ghost invariant = { λ c. ⊥ };
+    ghost invariant = { λ c. IsTraceOf c.opening c.trace × (c.failed ≡ false → Stands (world_after c.opening c.trace) c.machine (place_in c.calls)) };
 }
 
 impl Core {
@@ -65,8 +67,22 @@ impl Core {
         ensures works { IfOk result (λ c. c.failed ≡ false) }
         ensures fault { OnErr result (IsErrOf result CoreFault.NoMemory) }
     {
-        let _ = (alloc, words);
-        Err(CoreFault::NoMemory)
+        let opening = words.image()?;
+        // No rule of the kernel's pages fails in a new image, and nothing is committed in it.
+        open_law();
+        let machine = match Machine::open(alloc, words) {
+            Ok(machine) => machine,
+            Err(MountFault::NoMemory) => return Err(CoreFault::NoMemory),
+            Err(MountFault::BadKernel(_)) => unreachable!(),
+        };
+        Ok(Core {
+            alloc,
+            opening,
+            machine,
+            calls: Calls::new(alloc)?,
+            trace: Trace::new(alloc),
+            failed: false,
+        })
     }
 
     /// The words of the image over which it opened.
@@ -102,7 +118,7 @@ impl Core {
 
     /// The mark of a thread's next action: `Plain` where its reply comes next, none where it has no call.
     pub fn due(&self, thread: u16) -> Option<Mark>
-        ensures { result ≡ self.now.due thread }
+        ensures { result ≡ due_at self.now thread }
     {
         let waiting = self.calls.of(thread)?;
         Some(match &waiting.next {
@@ -118,8 +134,35 @@ impl Core {
         requires quiet { IsQuiet self.old }
         ensures { GivesAs self.old self.new thread command result }
     {
-        let _ = (thread, command);
-        Err(CoreFault::NoMemory)
+        self.check_works()?;
+        self.check_thread(thread)?;
+        if self.calls.of(thread).is_some() {
+            return Err(CoreFault::Running);
+        }
+        self.check_room()?;
+        self.begin_call(thread, command)
+    }
+
+    // Begins a thread's call: its first step is ready then.
+    fn begin_call(&mut self, thread: u16, command: Command) -> Result<(), CoreFault>
+        requires works { self.old.failed ≡ false }
+        requires started { HasThread self.old thread }
+        requires room { length self.old.trace < TRACE_LIMIT }
+        requires command { IsCommand command }
+        requires quiet { IsQuiet self.old }
+        ensures { MatchResult result (λ _. GivesAs self.old self.new thread command (Ok tt)) (λ fault. (fault ≡ CoreFault.NoMemory) × HasFailed self.old self.new) }
+    {
+        let cred = self.machine.cred_of(thread);
+        match begin(self.alloc, &mut self.trace, thread, cred, command) {
+            Ok(waiting) => {
+                self.calls.set(thread, Some(waiting));
+                Ok(())
+            }
+            Err(_) => {
+                self.failed = true;
+                Err(CoreFault::NoMemory)
+            }
+        }
     }
 
     /// Makes a turn of a thread's call at a tick: its next action, or its reply.
@@ -127,8 +170,42 @@ impl Core {
         requires { IsDueAt self.old now }
         ensures { TurnsAs self.old self.new thread now result }
     {
-        let _ = (thread, now);
-        Err(CoreFault::NoMemory)
+        self.check_works()?;
+        self.check_thread(thread)?;
+        if self.calls.of(thread).is_none() {
+            return Err(CoreFault::Idle);
+        }
+        self.check_room()?;
+        self.make_turn(thread, now)
+    }
+
+    // Makes the step of a thread's call that is ready.
+    fn make_turn(&mut self, thread: u16, now: u32) -> Result<Turned, CoreFault>
+        requires works { self.old.failed ≡ false }
+        requires started { HasThread self.old thread }
+        requires call { IsSome (due_at self.old thread) }
+        requires room { length self.old.trace < TRACE_LIMIT }
+        requires due { IsDueAt self.old now }
+        ensures { MatchResult result (IsTurned self.old self.new thread now) (λ fault. (fault ≡ CoreFault.NoMemory) × HasFailed self.old self.new) }
+    {
+        let Some(waiting) = self.calls.take(thread) else {
+            unreachable!()
+        };
+        let (alloc, machine, trace) = (self.alloc, &mut self.machine, &mut self.trace);
+        match step(alloc, machine, trace, thread, now, waiting) {
+            Ok(after) => {
+                let ended = after.is_none();
+                self.calls.set(thread, after);
+                Ok(Turned {
+                    position: self.trace.len() as u64,
+                    ended,
+                })
+            }
+            Err(_) => {
+                self.failed = true;
+                Err(CoreFault::NoMemory)
+            }
+        }
     }
 
     /// Lets an event come about at a tick.
@@ -136,7 +213,76 @@ impl Core {
         requires { MayHappen self.old event.now }
         ensures { HappensAs self.old self.new event.now result }
     {
-        let _ = event;
-        Err(CoreFault::NoMemory)
+        self.check_works()?;
+        self.check_named(event)?;
+        self.check_room()?;
+        self.make_event(event)
+    }
+
+    // Lets an event come about that may.
+    fn make_event(&mut self, event: &FaultEvent) -> Result<(), CoreFault>
+        requires works { self.old.failed ≡ false }
+        requires named { IsNamed self.old event.now }
+        requires room { length self.old.trace < TRACE_LIMIT }
+        requires may { MayHappen self.old event.now }
+        ensures { MatchResult result (λ _. IsHappened self.old self.new event.now) (λ fault. (fault ≡ CoreFault.NoMemory) × HasFailed self.old self.new) }
+    {
+        match happen(self.alloc, &mut self.machine, &mut self.trace, event) {
+            Ok(()) => Ok(()),
+            Err(_) => {
+                self.failed = true;
+                Err(CoreFault::NoMemory)
+            }
+        }
+    }
+
+    // Memory hasn't run out.
+    fn check_works(&self) -> Result<(), CoreFault>
+        ensures { MatchResult result (λ _. self.now.failed ≡ false) (λ fault. (fault ≡ CoreFault.NoMemory) × (self.now.failed ≡ true)) }
+    {
+        if self.failed {
+            return Err(CoreFault::NoMemory);
+        }
+        Ok(())
+    }
+
+    // The thread was started.
+    fn check_thread(&self, thread: u16) -> Result<(), CoreFault>
+        requires works { self.now.failed ≡ false }
+        ensures { MatchResult result (λ _. HasThread self.now thread) (λ fault. (fault ≡ CoreFault.NoThread) × (HasThread self.now thread → ⊥)) }
+    {
+        if self.machine.has_thread(thread) {
+            Ok(())
+        } else {
+            Err(CoreFault::NoThread)
+        }
+    }
+
+    // Whom the event names was started.
+    fn check_named(&self, event: &FaultEvent) -> Result<(), CoreFault>
+        requires works { self.now.failed ≡ false }
+        ensures { MatchResult result (λ _. IsNamed self.now event.now) (λ fault. (fault ≡ CoreFault.NoThread) × (IsNamed self.now event.now → ⊥)) }
+    {
+        match event {
+            FaultEvent::Mkfs(_) | FaultEvent::Process { .. } => Ok(()),
+            FaultEvent::Thread { process, .. } => {
+                if self.machine.has_process(*process) {
+                    Ok(())
+                } else {
+                    Err(CoreFault::NoThread)
+                }
+            }
+            FaultEvent::Stray { thread, .. } => self.check_thread(*thread),
+        }
+    }
+
+    // The trace has room for an entry.
+    fn check_room(&self) -> Result<(), CoreFault>
+        ensures { MatchResult result (λ _. length self.now.trace < TRACE_LIMIT) (λ fault. (fault ≡ CoreFault.Full) × IsFull self.now) }
+    {
+        if self.trace.len() >= limits::TRACE_LIMIT {
+            return Err(CoreFault::Full);
+        }
+        Ok(())
     }
 }
