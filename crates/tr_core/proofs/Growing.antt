@@ -31,7 +31,7 @@ pub record IsNext (w : World) (e : Entry) : Type 0 where
   pub windows : LeavesWindows w e
   pub table : (stepped w e).base.table ≡ root_row ∷ []
 
-row_is : (row : Row) → Contains (root_row ∷ []) row → row.standing ≡ IsReady
+pub row_is : (row : Row) → Contains (root_row ∷ []) row → row.standing ≡ IsReady
 row_is row among = by (contains_cases root_row [] row among)
   where
     by : (root_row ≡ row) ⊎ Contains [] row → row.standing ≡ IsReady

@@ -1,5 +1,5 @@
 -- What a core keeps with each entry that its trace gains, and what it answers.
-use Rattle.std.proofs.Common.{◌≡◌, ◌≢◌, ◌⊎◌, inl, inr, ℕ, ◌<◌, ◌≤◌, List, [], ◌∷◌, ◌++◌, length, map, Bool, true, false, cond, eqb, Contains, Option, Some, None, is_none, Ok, zero, suc, refl, sym, ap, subst, ◌∙◌, arith}
+use Rattle.std.proofs.Common.{◌≡◌, ◌≢◌, ◌⊎◌, inl, inr, ℕ, ◌<◌, ◌≤◌, List, [], ◌∷◌, ◌++◌, length, map, Bool, true, false, cond, eqb, Contains, Option, Some, None, is_none, IsSome, Ok, zero, suc, refl, sym, ap, subst, ◌∙◌, arith}
 use Rattle.std.specs.List.{slice_get}
 use Rattle.pm_words.proofs.WordLemmas.{present_all_durable}
 use Rattle.kern_model.specs.NewImage.{new_image}
@@ -16,12 +16,14 @@ use Rattle.tr_types.specs.declared.entry.Entry.TheVariants as entry
 use Rattle.tr_types.specs.declared.entry.Mark.{Mark}
 use Rattle.tr_types.specs.declared.entry.Mark.TheVariants.{Plain}
 use Rattle.tr_types.specs.declared.kernel_call.Holder.{Holder}
+use Rattle.tr_types.specs.declared.limits.TheConstants.{THREADS}
 use Rattle.tr_types.specs.declared.permission.Cred.{Cred}
 use Rattle.zo_model.specs.Alone.{root_cred}
 use Rattle.zo_model.specs.Commands.{IsCommand}
 use Rattle.tr_model.specs.OneWindow.{IsKey}
 use Rattle.kern_model.specs.Rights.{closed_pkru}
 use Rattle.tr_model.specs.Worlds.{World, put, stepped, MayCome}
+use Rattle.tr_dispatch.specs.Sessions.{RunsOn, GivesAction}
 use Rattle.tr_dispatch.specs.declared.session.SessionStep.{SessionStep}
 use Rattle.tr_dispatch.specs.declared.session.SessionStep.TheVariants as step
 use Rattle.tr_core.specs.declared.calls.Waiting.{Waiting}
@@ -29,7 +31,7 @@ use Rattle.tr_core.specs.declared.run.Turned.{Turned}
 use Rattle.tr_core.specs.declared.event.FaultEvent.{FaultEvent}
 use Rattle.tr_core.specs.declared.event.FaultEvent.TheVariants as event
 use Rattle.tr_core.specs.declared.limits.TheConstants.{TRACE_LIMIT}
-use Rattle.tr_core.specs.Core.{CoreView, IsTurnOf, IsOfEvent, IsNamed, MayHappen, IsQuiet, Adds, GivesAs, IsTurned, IsHappened, IsStrayOf, due_in}
+use Rattle.tr_core.specs.Core.{CoreView, IsTurnOf, IsOfEvent, IsNamed, MayHappen, IsQuiet, Adds, GivesAs, IsTurned, IsHappened, IsStrayOf, HasThread, HasProcess, IsDueAt, due_in, due_at}
 use Rattle.tr_core.specs.Places.{place_in}
 use Rattle.tr_core.specs.Standing.{Stands, StandsAs, IsTimeless, AreRoots, due_of, mark_of}
 use Rattle.tr_core.specs.Steps.{Acts, Begins, StepsBy, Steps, CanHappen, Happens, HappensBy, Strays}
@@ -38,7 +40,7 @@ use Rattle.tr_core.proofs.Events.{event_next, event_stands}
 use Rattle.tr_core.proofs.Growing.{IsNext, grows, world_more, thread_lives, process_lives, length_more}
 use Rattle.tr_core.proofs.Puts.{put_same, put_other}
 use Rattle.tr_core.proofs.Strays.{stray_refused}
-use Rattle.tr_core.proofs.Turns.{some_none, call_next, call_stands, valid_now, act_next, act_stands, reply_next, reply_stands}
+use Rattle.tr_core.proofs.Turns.{some_none, call_next, call_stands, ready_now, valid_now, act_next, act_stands, reply_next, reply_stands}
 use Rattle.tr_core.proofs.Users.{roots_process, roots_thread, thread_stays}
 
 -- a core as its callers see it
@@ -262,3 +264,71 @@ module _ (opening : List ℕ) (trace : List Entry) (m : MachineView) (places : L
 
   pub can_happen : (happening : FaultEvent) → MayHappen (view opening trace places false) happening → IsNamed (view opening trace places false) happening → CanHappen m.bus happening
   can_happen happening may named = subst (λ (b : Bus). CanHappen b happening) (sym k.bus) (can_by happening may named)
+
+-- A core whose fields are these, as its callers see it.
+module _ (opening : List ℕ) (trace : List Entry) (m : MachineView) (places : List (Option Waiting)) (failed : Bool) (now : CoreView) (is : view opening trace places failed ≡ now)
+    (kept : IsTraceOf opening trace × (failed ≡ false → Stands (world_after opening trace) m (place_in places))) (works : now.failed ≡ false) where
+  works_is : failed ≡ false
+  works_is = ap (λ (c : CoreView). c.failed) is ∙ works
+
+  pub stands_now : Stands (world_after opening trace) m (place_in places)
+  stands_now = kept.1 works_is
+
+  now_is : view opening trace places false ≡ now
+  now_is = ap (view opening trace places) (sym works_is) ∙ is
+
+  -- what is said of the core, of its fields
+  pub of_fields : (P : CoreView → Type 0) → P now → P (view opening trace places false)
+  of_fields P = subst P (sym now_is)
+
+  -- what is said of two moments of it
+  pub of_views : (P : CoreView → CoreView → Type 0) (longer : List Entry) (later : List (Option Waiting)) → P (view opening trace places false) (view opening longer later false) → P now (view opening longer later failed)
+  of_views P longer later p = subst (λ b. P now (view opening longer later b)) (sym works_is) (subst (λ c. P c (view opening longer later false)) now_is p)
+
+  pub small_now : (thread : ℕ) → HasThread now thread → thread < THREADS
+  small_now thread was = stands_now.registers.small thread (of_fields (λ c. HasThread c thread) was)
+
+  pub given_all : (thread : ℕ) (command : Command) → HasThread now thread → length now.trace < TRACE_LIMIT → IsCommand command → IsQuiet now → (longer : List Entry) → longer ≡ trace ++ entry.Call thread command ∷ [] → (waiting : Waiting) → Begins thread command waiting
+      → (later : List (Option Waiting)) → ((t : ℕ) → place_in later t ≡ put (place_in places) thread (Some waiting) t) → Keeps opening longer m (place_in later) × GivesAs now (view opening longer later failed) thread command (Ok tt)
+  given_all thread command started room valid quiet longer grown waiting begins later set = (
+    given_keeps opening trace m places kept.0 stands_now (of_fields (λ c. length c.trace < TRACE_LIMIT) room) (of_fields IsQuiet quiet) thread command (of_fields (λ c. HasThread c thread) started) valid longer grown waiting begins later set,
+    of_views (λ old new. GivesAs old new thread command (Ok tt)) longer later
+        (given_is opening trace m places kept.0 stands_now (of_fields (λ c. length c.trace < TRACE_LIMIT) room) (of_fields IsQuiet quiet) thread command (of_fields (λ c. HasThread c thread) started) valid longer grown waiting begins later set),
+  )
+
+  pub turn_all : (thread tick : ℕ) → HasThread now thread → length now.trace < TRACE_LIMIT → IsDueAt now tick → (waiting : Waiting) → place_in places thread ≡ Some waiting → (next : MachineView) (longer : List Entry) (after : Option Waiting) → Steps waiting thread tick m next trace longer after
+      → (later : List (Option Waiting)) → ((t : ℕ) → place_in later t ≡ put (place_in places) thread after t) → (turned : Turned) → turned.position ≡ length longer → turned.ended ≡ is_none after
+      → Keeps opening longer next (place_in later) × IsTurned now (view opening longer later failed) thread tick turned
+  turn_all thread tick started room due waiting has next longer after steps later set turned position ended = (
+    turn_keeps opening trace m places kept.0 stands_now (of_fields (λ c. length c.trace < TRACE_LIMIT) room) thread tick (of_fields (λ c. IsDueAt c tick) due) (of_fields (λ c. HasThread c thread) started) waiting has next longer after steps later set,
+    of_views (λ old new. IsTurned old new thread tick turned) longer later
+        (turn_is opening trace m places kept.0 stands_now (of_fields (λ c. length c.trace < TRACE_LIMIT) room) thread tick (of_fields (λ c. IsDueAt c tick) due) (of_fields (λ c. HasThread c thread) started) waiting has next longer after steps later set turned position ended),
+  )
+
+  -- what a waiting call is given to make
+  pub ready_all : (thread : ℕ) (waiting : Waiting) → place_in places thread ≡ Some waiting → RunsOn waiting.session.stage waiting.next × GivesAction waiting.next
+  ready_all thread waiting has = let ready = ready_now (world_after opening trace) m (place_in places) stands_now thread waiting has in (ready.runs, ready.gives)
+
+  pub started_all : (thread : ℕ) → HasThread now thread → ThreadWasStarted m.bus thread
+  started_all thread was = subst (λ (b : Bus). ThreadWasStarted b thread) (sym stands_now.bus) (of_fields (λ c. HasThread c thread) was)
+
+  pub has_call : (thread : ℕ) → IsSome (due_at now thread) → place_in places thread ≡ None → ⊥
+  has_call thread some none = no_some (subst IsSome (due_is places thread ∙ ap due_of none) (of_fields (λ c. IsSome (due_at c thread)) some))
+    where
+      no_some : IsSome (due_of None) → ⊥
+      no_some clash = cc
+
+  pub event_all : (happening : FaultEvent) → IsNamed now happening → length now.trace < TRACE_LIMIT → MayHappen now happening → (next : MachineView) (longer : List Entry) → Happens happening m next trace longer
+      → Keeps opening longer next (place_in places) × IsHappened now (view opening longer places failed) happening
+  event_all happening named room may next longer happens = (
+    event_keeps opening trace m places kept.0 stands_now (of_fields (λ c. length c.trace < TRACE_LIMIT) room) happening (of_fields (λ c. MayHappen c happening) may) (of_fields (λ c. IsNamed c happening) named) next longer happens,
+    of_views (λ old new. IsHappened old new happening) longer places
+        (event_is opening trace m places kept.0 stands_now (of_fields (λ c. length c.trace < TRACE_LIMIT) room) happening (of_fields (λ c. IsNamed c happening) named) next longer happens),
+  )
+
+  pub can_all : (happening : FaultEvent) → IsNamed now happening → length now.trace < TRACE_LIMIT → MayHappen now happening → CanHappen m.bus happening
+  can_all happening named room may = can_happen opening trace m places kept.0 stands_now (of_fields (λ c. length c.trace < TRACE_LIMIT) room) happening (of_fields (λ c. MayHappen c happening) may) (of_fields (λ c. IsNamed c happening) named)
+
+  -- whom an event names was started on the machine
+  pub process_named : (process : ℕ) → ProcessWasStarted m.bus process → HasProcess now process
+  process_named process was = subst (λ c. HasProcess c process) now_is (subst (λ (b : Bus). ProcessWasStarted b process) stands_now.bus was)

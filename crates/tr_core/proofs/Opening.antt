@@ -4,8 +4,8 @@ use Rattle.std.proofs.lemmas.Bool.{cond-true, cond-false, lt-ltb, le-ltb, cases_
 use Rattle.std.proofs.lemmas.List.FromFn.{get_or-map-range_with_len, length-map-range_with_len}
 use Rattle.std.specs.List.{IsDistinct}
 use Rattle.pm_words.specs.Word.{Word}
-use Rattle.pm_words.specs.Memory.{all_durable, word_at, IsPages, HasPages}
-use Rattle.pm_words.proofs.WordLemmas.{word_at_all_durable, length_all_durable}
+use Rattle.pm_words.specs.Memory.{all_durable, word_at, present_values}
+use Rattle.pm_words.proofs.WordLemmas.{word_at_all_durable, present_all_durable}
 use Rattle.zo_layout.specs.Layout.{page_at, word_of, kernel_pages, owner_word, owner_table, coffer_table, bucket_page, root_control, root_page, bucket_head, bucket_of, first_free_entry, first_entry_page, pool_head, page_kind, control_intent, committed_word}
 use Rattle.kern_model.specs.NewImage.{new_image, new_word, word_in_page, owner_in_new, coffer_word}
 use Rattle.kern_model.specs.KernelView.{value, pages_of, owner_of}
@@ -13,10 +13,13 @@ use Rattle.kern_model.specs.Kernel.{coffer_pages}
 use Rattle.kern_model.specs.Rights.{closed_pkru, may_write}
 use Rattle.kern_model.specs.declared.limits.TheConstants.{KERNEL, ROOT_COFFER}
 use Rattle.kern_model.proofs.FreePages.{pages_are, size_opened, free_in_new, owner_new}
-use Rattle.kern_model.proofs.Idle.{idle_word}
-use Rattle.kern_model.proofs.NewKernel.{new_committed, new_tables}
-use Rattle.bus_model.specs.Machine.{pkru_of}
-use Rattle.bus_model.proofs.MachineLemmas.{closed_first}
+use Rattle.kern_model.proofs.NewKernel.{new_committed, new_is_sound}
+use Rattle.bus_machine.specs.Opening.{bus_opened, OpensAsIs}
+use Rattle.bus_machine.specs.View.{MachineView}
+use Rattle.bus_model.specs.Machine.{Bus, bus_over, pkru_of}
+use Rattle.bus_model.proofs.MachineLemmas.{closed_first, registers_first}
+use Rattle.kern_model.specs.KernelRules.{IsFirstFault}
+use Rattle.kern_view.proofs.FaultLemmas.{none_in_sound}
 use Rattle.tr_types.specs.Paths.{same_text}
 use Rattle.zo_hash_dir.proofs.Members.{contains_none}
 use Rattle.zo_model.specs.Tree.{Member, Node, Directory, FileOf, node_at, new_tree, same_names}
@@ -28,8 +31,14 @@ use Rattle.tr_model.specs.Worlds.{World, world_of, IsDenoted}
 use Rattle.tr_dispatch.specs.Rooted.{HasKernel, IsRooted, IsAtRest, root_at}
 use Rattle.tr_dispatch.specs.Sessions.{IsBare}
 use Rattle.tr_dispatch.proofs.Kernels.{owned_page}
+use Rattle.tr_dispatch.proofs.Opening.{opened_kernel, opened_rooted}
 use Rattle.tr_dispatch.proofs.Register.{shut, shut_stores}
 use Rattle.tr_dispatch.proofs.Roots.{denoted_of}
+use Rattle.tr_core.specs.declared.calls.Waiting.{Waiting}
+use Rattle.tr_core.specs.Standing.{Stands, StandsAs}
+use Rattle.tr_core.specs.Traces.{IsTraceOf}
+use Rattle.tr_core.proofs.Growing.{row_is}
+use Rattle.tr_core.proofs.Turns.{some_none}
 
 -- Words past the kernel's pages.
 
@@ -61,9 +70,6 @@ zero_new pages page addr past lt low high = value_new pages addr (omega arith) �
 owner_root : (pages page : ℕ) → kernel_pages pages ≤ page → page < kernel_pages pages + 2 → owner_in_new pages page ≡ 1
 owner_root pages page past lt = cond-false _ 65535 _ (le-ltb page (kernel_pages pages) past) ∙ cond-true _ 1 0 (lt-ltb page (kernel_pages pages + 2) lt)
 
-owner_kernel : (pages page : ℕ) → page < kernel_pages pages → owner_in_new pages page ≡ 65535
-owner_kernel pages page lt = cond-true _ 65535 _ (lt-ltb page (kernel_pages pages) lt)
-
 -- lists of none and of one
 none_twice : IsDistinct same_text []
 unfolding IsDistinct
@@ -83,25 +89,8 @@ module _ (pages : ℕ) (least : 64 ≤ pages) (most : pages ≤ 16384) where
   fits : kernel_pages pages + 2 ≤ pages
   fits = (free_in_new pages least most).inside
 
-  -- the root coffer is the only one
-  alone : IsRootAlone words
-  alone = record {
-    idle = record {
-      present = new_committed pages least most;
-      older = ap (λ (w : Word). w.older) (word_at_all_durable (new_image pages) (committed_word / 8) (let len = length-map-range_with_len (new_word pages) 0 (512 * pages) in omega arith));
-    };
-    entries = λ i lt.
-        subst (λ (n : ℕ). (word_at words (word_of (page_at (coffer_table n)) i)).present ≡ coffer_word n i) (sym count)
-        (sym (idle_word words (word_of (page_at (coffer_table pages)) i) (new_committed pages least most)) ∙ (new_tables pages least most).entries i lt);
-  }
-
-  kernel : HasKernel words
-  kernel = record {
-    alone = alone;
-    size = subst (IsPages (length words)) (sym count) (size_opened pages least most);
-    owned = λ page lt. let low : page < kernel_pages pages = subst (λ n. page < kernel_pages n) count lt in owner_new pages page least most (omega (arith, low, fits)) ∙ owner_kernel pages page low;
-    control = subst (λ n. owner_of words (root_control n) ≡ 1) (sym count) (owner_new pages (root_control pages) least most (omega (arith, fits)) ∙ owner_root pages (root_control pages) (omega arith) (omega arith));
-  }
+  abbrev kernel : HasKernel words
+  kernel = opened_kernel pages least most
 
   -- a word of the control page or the root page, whose place is said by the number of pages
   zero_in_root : (at : ℕ → ℕ) → page_at (root_control pages) ≤ at pages → at pages < page_at (root_page pages + 1) → value words (at (pages_of words)) ≡ 0
@@ -114,8 +103,8 @@ module _ (pages : ℕ) (least : 64 ≤ pages) (most : pages ≤ 16384) where
   abbrev w : World
   w = world_of (new_image pages)
 
-  pub opens_rooted : IsRooted w
-  opens_rooted = record { kernel = kernel; rows = λ row among. absurd (contains_none row among); table = refl }
+  abbrev pub opens_rooted : IsRooted w
+  opens_rooted = opened_rooted pages least most
 
   -- What the pages serve for.
   abbrev use_in : ℕ → Use
@@ -197,6 +186,7 @@ module _ (pages : ℕ) (least : 64 ≤ pages) (most : pages ≤ 16384) where
   }
 
   pub opens_at_rest : IsAtRest w
+  unfolding denotes
   opens_at_rest = record {
     alone = record { coffers_are = refl; path = refl; below = refl; root = refl; dirs = dirs_by };
     rests = record {
@@ -222,3 +212,35 @@ module _ (pages : ℕ) (least : 64 ≤ pages) (most : pages ≤ 16384) where
     consulted = λ thread key opened. absurd (shut w.base.machine.bus thread key (closed thread) opened);
     reading = λ thread key seat is reads key_is. shut_stores w.base.machine.bus thread key (closed thread) key_is;
   }
+
+-- a core as it opens
+pub opens_standing : (pages : ℕ) → 64 ≤ pages → pages ≤ 16384 → (m : MachineView) → m.failed ≡ false → m.bus ≡ bus_over (new_image pages) → (calls : ℕ → Option Waiting) → ((t : ℕ) → calls t ≡ None) → Stands (world_of (new_image pages)) m calls
+opens_standing pages least most m works bus calls quiet = record {
+  works = works;
+  bus = bus;
+  rooted = opened_rooted pages least most;
+  denoted = opens_denoted pages least most;
+  windowed = opens_windowed pages least most;
+  registers = registers_first (new_image pages);
+  timeless = record { clock = refl; latest = refl; ended = refl };
+  users = record { creds = λ process cred among. absurd (contains_none (process, cred) among); housed = λ thread process among. absurd (contains_none (thread, process) among) };
+  each = λ t. subst (StandsAs (world_of (new_image pages)) t) (sym (quiet t)) (refl, opens_bare pages least most t);
+  alone = λ t u one other is_one is_other. absurd (some_none one (sym is_one ∙ quiet t));
+  rests = λ none. opens_at_rest pages least most;
+}
+
+-- and its trace, which is empty
+pub opens_trace : (image : List ℕ) → IsTraceOf image []
+opens_trace image = record { allowed = tt; in_call = tt; marked = tt; right = tt; windows = tt; confined = tt; unlost = λ row among. row_is row among; within = omega arith }
+
+-- no rule of the kernel's pages fails in a new image, over which the machine opens as it is
+pub no_fault : (words : List Word) (pages place : ℕ) → words ≡ all_durable (new_image pages) → 64 ≤ pages → pages ≤ 16384 → IsFirstFault words place → ⊥
+no_fault words pages place is least most first = none_in_sound (all_durable (new_image pages)) place (new_is_sound pages least most) (subst (λ (ws : List Word). IsFirstFault ws place) is first)
+
+pub opens_bus : (bus : Bus) (words : List Word) (pages : ℕ) → OpensAsIs → words ≡ all_durable (new_image pages) → 64 ≤ pages → pages ≤ 16384 → bus ≡ bus_opened words → bus ≡ bus_over (new_image pages)
+opens_bus bus words pages law is least most opened =
+    opened ∙ ap (λ (ws : List Word). bus_opened ws) is ∙ law (new_image pages) (new_is_sound pages least most) (new_committed pages least most)
+
+-- the words of an image of durable ones
+pub opens_image : (words : List Word) (image : List ℕ) (pages : ℕ) → words ≡ all_durable (new_image pages) → image ≡ present_values words → image ≡ new_image pages
+opens_image words image pages is present = present ∙ ap present_values is ∙ present_all_durable (new_image pages)

@@ -34,3 +34,11 @@ place_set places thread c lt t = as_get (slice_set places thread c) t ∙ by (ca
     by : (t ≡ thread) ⊎ (t ≢ thread) → get_or (slice_set places thread c) t None ≡ put (place_in places) thread c t
     by (inl same) = get_or-set_at places thread t c None same lt ∙ sym (put_at (place_in places) thread c t same)
     by (inr other) = get_or-set_other places thread t c None other ∙ sym (as_get places t) ∙ sym (put_other (place_in places) thread c t other)
+
+-- a value that is taken out first and then put makes no difference
+pub put_twice : {X : Type 0} (at taken : ℕ → X) (thread : ℕ) (none x : X) → ((t : ℕ) → taken t ≡ put at thread none t) → (t : ℕ) → put taken thread x t ≡ put at thread x t
+put_twice at taken thread none x left t = by (cases_eq t thread)
+  where
+    by : (t ≡ thread) ⊎ (t ≢ thread) → put taken thread x t ≡ put at thread x t
+    by (inl same) = put_at taken thread x t same ∙ sym (put_at at thread x t same)
+    by (inr other) = put_other taken thread x t other ∙ left t ∙ put_other at thread none t other ∙ sym (put_other at thread x t other)

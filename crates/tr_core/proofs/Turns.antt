@@ -140,7 +140,7 @@ module _ (w : World) (m : MachineView) (calls : ℕ → Option Waiting) (k : Sta
 
 -- A turn of a thread's call.
 module _ (w : World) (m : MachineView) (calls : ℕ → Option Waiting) (k : Stands w m calls) (thread : ℕ) (waiting : Waiting) (has : calls thread ≡ Some waiting) where
-  ready_now : IsReady w thread waiting
+  pub ready_now : IsReady w thread waiting
   ready_now = subst (StandsAs w thread) has (k.each thread)
 
   -- no other thread has a call
