@@ -1,146 +1,177 @@
 -- What holds while turns of a call are made.
-use Rattle.std.proofs.Common.{◌≡◌, ◌≢◌, ℕ, List, ◌∷◌, map, Bool, true, false, cond, ne_eqb, Option, Some, None, Ok, refl, sym, ap, ◌∙◌}
-use Rattle.bus_model.specs.Machine.{Machine}
+use Rattle.std.proofs.Common.{◌≡◌, ◌≢◌, ℕ, List, ◌∷◌, Bool, true, false, not, cond, if◌then◌else◌, ◌⊎◌, Option, Some, is_some, Ok, inl, inr, refl, sym, ap, subst, ◌∙◌, eq-eqb, ne_eqb, eqb}
+use Rattle.std.proofs.lemmas.Bool.{cases_eq}
 use Rattle.tr_types.specs.declared.entry.Entry.{Entry}
-use Rattle.tr_types.specs.declared.entry.Mark.TheVariants as mark
-use Rattle.tr_types.specs.declared.permission.Cred.{Cred}
-use Rattle.bus_machine.specs.View.{MachineView}
-use Rattle.tr_script.specs.Grammar.{Declared, declared, calling_behind}
+use Rattle.tr_types.specs.declared.entry.Entry.TheVariants as entry
+use Rattle.tr_types.specs.declared.entry.Mark.{Mark}
+use Rattle.tr_model.specs.Worlds.{World, stepped, put}
 use Rattle.tr_script.specs.declared.script.Line.{Line}
 use Rattle.tr_script.specs.declared.script.Line.TheVariants.{Finish, Open}
-use Rattle.tr_top.specs.declared.runner.RunningCall.{RunningCall}
-use Rattle.tr_top.specs.declared.runner.Turned.TheVariants.{Acted, Ended}
-use Rattle.tr_top.specs.Along.{Place, Turns, ToAnOpening, Running, is_running, before, after_action}
-use Rattle.tr_top.specs.Run.{world_after, place_after}
-use Rattle.tr_top.specs.Running.{Goes, IsTied, IsLike, IsOfThread, Passes, Stands, TurnsTo, WhoStays}
-use Rattle.tr_top.proofs.PlaceLemmas.{before_running, before_dir, stands_before, is_its, is_anothers, is_nobodys, finish_here, finish_past, open_here, open_past}
+use Rattle.tr_core.specs.Core.{IsTurnOf, IsTurned, due_at, world_at}
+use Rattle.tr_core.specs.declared.run.Turned.{Turned}
+use Rattle.tr_top.specs.Along.{Place, ToAnOpening, before, followed, opens, place_at}
+use Rattle.tr_top.specs.Running.{RunnerView, IsAlong, Goes, IsBefore, IsEnded, IsOpened, IsTurning, WhoStays, place_of}
+use Rattle.tr_top.proofs.PlaceLemmas.{stands_before, finish_here, finish_past, open_here, open_past, put_same}
+use Rattle.tr_top.proofs.AlongLemmas.{adds_world, turn_calls, clash}
+use Rattle.tr_top.proofs.LineLemmas.{more_place}
 
--- who lives stays, and what has begun has
-pub record WhoKept (old new : Machine) : Type 0 where
-  pub processes : new.bus.processes ≡ old.bus.processes
-  pub threads : new.bus.threads ≡ old.bus.threads
-  pub begun : old.begun ≡ true → new.begun ≡ true
+-- Between two turns that are made to the end of a thread's call, for a line that stands before others.
+pub record FinishRuns (old now : RunnerView) (thread : ℕ) (taken told : Option (List ℕ)) (before_faults after_faults : ℕ) : Type 0 where
+  pub goes : Goes {T = Unit {0}} old now taken told before_faults after_faults (Ok tt)
+  pub place : (below : List Line) → IsBefore old (Finish thread ∷ below) → IsBefore now (Finish thread ∷ below)
+  pub calls : (t : ℕ) → t ≢ thread → (place_of now).calls t ≡ (place_of old).calls t
+  pub who : WhoStays old now
 
--- between two turns of a thread's call, since the place was that of an old trace
-pub record CallRuns (lines : List Line) (m : MachineView) (old trace : List Entry) (call : RunningCall) (thread : ℕ) (turns : Turns) (taken now : Option (List ℕ)) (before after : ℕ) : Type 0 where
-  pub tied : IsTied lines m trace
-  pub stands : Stands lines trace (Some call)
-  pub its : call.session.thread ≡ thread
-  pub place : place_after lines trace ≡ place_after lines old
-  pub turns_are : (place_after lines old).turns ≡ turns
-  pub who : WhoKept (world_after lines old).machine (world_after lines trace).machine
-  pub goes : Goes {T = Unit {0}} lines old trace taken now before after (Ok tt)
+-- and of those to an opening
+pub record OpenRuns (old now : RunnerView) (thread : ℕ) (taken told : Option (List ℕ)) (before_faults after_faults : ℕ) : Type 0 where
+  pub goes : Goes {T = Unit {0}} old now taken told before_faults after_faults (Ok tt)
+  pub place : (below : List Line) → IsBefore old (Open thread ∷ below) → IsBefore now (Open thread ∷ below)
+  pub calls : (t : ℕ) → (place_of now).calls t ≡ true → (place_of old).calls t ≡ true
+  pub who : WhoStays old now
 
-clash : {T : Type 0} → true ≡ false → T
-clash e = absurd (cc)
+pub who_same : (r : RunnerView) → WhoStays r r
+who_same r = record { processes = refl; threads = refl }
 
--- where the lines went on from, while turns were made to an end
-module _ (lines : List Line) (m : MachineView) (old trace new : List Entry) (call : RunningCall) (thread : ℕ) (turns : Turns) (taken now : Option (List ℕ)) (before_faults after_faults : ℕ) (runs : CallRuns lines m old trace call thread turns taken now before_faults after_faults)
-    (who : WhoStays (world_after lines trace).machine (world_after lines new).machine) where
-  abbrev P : Place
-  P = place_after lines old
+who_then : (old mid new : RunnerView) → WhoStays old mid → WhoStays mid new → WhoStays old new
+who_then old mid new one two = record { processes = two.processes ∙ one.processes; threads = two.threads ∙ one.threads }
 
-  abbrev one : Running
-  one = record { thread = call.session.thread; command = call.session.command }
+-- A turn starts nobody.
+turn_processes : (w : World) (thread : ℕ) (m : Mark) (ended : Bool) (e : Entry) → IsTurnOf thread 0 m ended e → (stepped w e).base.machine.bus.processes ≡ w.base.machine.bus.processes
+turn_processes w thread m false (entry.Act u now x action answer) is = refl
+turn_processes w thread m true (entry.Reply u reply) is = refl
+turn_processes w thread m false e is = absurd is
+turn_processes w thread m true e is = absurd is
 
-  running_is : P.running ≡ Some one
-  running_is = ap (λ (p : Place). p.running) (sym runs.place) ∙ runs.stands.running
+turn_threads : (w : World) (thread : ℕ) (m : Mark) (ended : Bool) (e : Entry) → IsTurnOf thread 0 m ended e → (stepped w e).base.machine.bus.threads ≡ w.base.machine.bus.threads
+turn_threads w thread m false (entry.Act u now x action answer) is = refl
+turn_threads w thread m true (entry.Reply u reply) is = refl
+turn_threads w thread m false e is = absurd is
+turn_threads w thread m true e is = absurd is
 
-  is_here : is_running thread P.running ≡ true
-  is_here = is_its thread P.running one running_is runs.its
+turned_who : (old new : RunnerView) (thread : ℕ) (turned : Turned) → IsTurned old.core new.core thread 0 turned → WhoStays old new
+turned_who old new thread turned h =
+    let world = adds_world old.core new.core h.e h.adds in
+    record {
+      processes = ap (λ (w : World). w.base.machine.bus.processes) world ∙ turn_processes (world_at old.core) thread h.mark turned.ended h.e h.turn;
+      threads = ap (λ (w : World). w.base.machine.bus.threads) world ∙ turn_threads (world_at old.core) thread h.mark turned.ended h.e h.turn;
+    }
 
-  -- who was started and what was declared, whatever the turns have done of the call
-  like_after : (d next : Declared) → d.begun ≡ true → next.processes ≡ d.processes → next.threads ≡ d.threads → next.begun ≡ true → (place_after lines new).dir ≡ P.dir → ((r : Running) → (place_after lines new).running ≡ Some r → next.calling ≡ Some r.thread)
-      → IsLike lines (world_after lines old).machine P d → IsLike lines (world_after lines new).machine (place_after lines new) next
-  like_after d next begun processes threads has dir calling k = record {
-    processes = ap (λ (l : List (ℕ × Cred)). map (λ p. p.0) l) (who.processes ∙ runs.who.processes) ∙ k.processes ∙ sym processes;
-    threads = who.threads ∙ runs.who.threads ∙ k.threads ∙ sym threads;
-    begun = who.begun ∙ sym has;
-    untouched = λ b. clash (sym who.begun ∙ b);
-    dir = λ _. dir ∙ k.dir (k.begun ∙ begun);
-    calling = calling;
+-- Where lines begin with a `finish` or an `open` line of a thread that has a call, turns of that thread are due.
+pub finish_turning : (r : RunnerView) (thread : ℕ) (below : List Line) → IsBefore r (Finish thread ∷ below) → (place_of r).calls thread ≡ true → IsTurning thread (place_of r).turns
+finish_turning r thread below at has = subst (λ (p : Place). IsTurning thread p.turns) (sym (at.place ∙ finish_here thread below (place_of r).calls has)) refl
+
+pub open_turning : (r : RunnerView) (thread : ℕ) (below : List Line) → IsBefore r (Open thread ∷ below) → (place_of r).calls thread ≡ true → IsTurning thread (place_of r).turns
+open_turning r thread below at has = subst (λ (p : Place). IsTurning thread p.turns) (sym (at.place ∙ open_here thread below (place_of r).calls has)) refl
+
+-- The place after a turn of a thread, where a line of it is being followed.
+finish_step : (below : List Line) (calls : ℕ → Bool) (thread : ℕ) (m : Mark) (ended : Bool) (e : Entry) → calls thread ≡ true → IsTurnOf thread 0 m ended e → (next : ℕ → Bool) × (followed (before (Finish thread ∷ below) calls) e ≡ before (Finish thread ∷ below) next)
+finish_step below calls thread m false (entry.Act u now x action answer) has is =
+    let here = finish_here thread below calls has in
+    (calls, ap (λ (p : Place). followed p (entry.Act u now x action answer)) here ∙ sym here)
+finish_step below calls thread m true (entry.Reply u reply) has is =
+    let next : ℕ → Bool = put calls thread false in
+    (next, ap (λ (p : Place). followed p (entry.Reply u reply)) (finish_here thread below calls has) ∙ ap (λ (v : ℕ). before below (put calls v false)) is.0 ∙ sym (finish_past thread below next (put_same calls thread false)))
+finish_step below calls thread m false e has is = absurd is
+finish_step below calls thread m true e has is = absurd is
+
+open_step : (below : List Line) (calls : ℕ → Bool) (thread : ℕ) (m : Mark) (ended : Bool) (e : Entry) → calls thread ≡ true → opens m ≡ false → IsTurnOf thread 0 m ended e → (next : ℕ → Bool) × (followed (before (Open thread ∷ below) calls) e ≡ before (Open thread ∷ below) next)
+open_step below calls thread m false (entry.Act u now x action answer) has shut is =
+    let here = open_here thread below calls has in
+    let kept : followed (place_at below (ToAnOpening thread) calls) (entry.Act u now x action answer) ≡ place_at below (ToAnOpening thread) calls
+    = ap (λ (b : Bool). cond b (before below calls) (place_at below (ToAnOpening thread) calls)) (ap opens is.2 ∙ shut) in
+    (calls, ap (λ (p : Place). followed p (entry.Act u now x action answer)) here ∙ kept ∙ sym here)
+open_step below calls thread m true (entry.Reply u reply) has shut is =
+    let next : ℕ → Bool = put calls thread false in
+    (next, ap (λ (p : Place). followed p (entry.Reply u reply)) (open_here thread below calls has) ∙ ap (λ (v : ℕ). before below (put calls v false)) is.0 ∙ sym (open_past thread below next (put_same calls thread false)))
+open_step below calls thread m false e has shut is = absurd is
+open_step below calls thread m true e has shut is = absurd is
+
+opened_step : (below : List Line) (calls : ℕ → Bool) (thread : ℕ) (m : Mark) (ended : Bool) (e : Entry) → calls thread ≡ true → opens m ≡ true → IsTurnOf thread 0 m ended e → followed (before (Open thread ∷ below) calls) e ≡ before below calls
+opened_step below calls thread m false (entry.Act u now x action answer) has lifts is =
+    ap (λ (p : Place). followed p (entry.Act u now x action answer)) (open_here thread below calls has)
+    ∙ ap (λ (b : Bool). cond b (before below calls) (place_at below (ToAnOpening thread) calls)) (ap opens is.2 ∙ lifts)
+opened_step below calls thread m true (entry.Reply u reply) has lifts is = clash (sym lifts ∙ ap opens is.1)
+opened_step below calls thread m false e has lifts is = absurd is
+opened_step below calls thread m true e has lifts is = absurd is
+
+-- a thread has a call where the core has a turn of it
+pub has_call : (r : RunnerView) (thread : ℕ) (m : Mark) → IsAlong r.lines r.core → r.core.failed ≡ false → due_at r.core thread ≡ Some m → (place_of r).calls thread ≡ true
+has_call r thread m along works due = along.calls works thread ∙ ap is_some due
+
+pub same_mark : (d : Option Mark) (m n : Mark) → d ≡ Some m → d ≡ Some n → m ≡ n
+same_mark d m n one two = let same : Some m ≡ Some n = sym one ∙ two in cc
+
+-- The calls after a turn.
+module _ (old new : RunnerView) (thread : ℕ) (turned : Turned) (lines : new.lines ≡ old.lines) (has : (place_of old).calls thread ≡ true) (h : IsTurned old.core new.core thread 0 turned) where
+  moves : place_of new ≡ followed (place_of old) h.e
+  moves = more_place old new h.e lines h.adds
+
+  calls_are : (t : ℕ) → (place_of new).calls t ≡ (if eqb t thread then not turned.ended else (place_of old).calls t)
+  calls_are t = ap (λ (p : Place). p.calls t) moves ∙ turn_calls (place_of old) thread h.mark turned.ended h.e h.turn has t
+
+  calls_other : (t : ℕ) → t ≢ thread → (place_of new).calls t ≡ (place_of old).calls t
+  calls_other t ne = calls_are t ∙ ap (λ (b : Bool). cond b (not turned.ended) ((place_of old).calls t)) (ne_eqb t thread ne)
+
+  calls_fall : (t : ℕ) → (place_of new).calls t ≡ true → (place_of old).calls t ≡ true
+  calls_fall t is = by (cases_eq t thread)
+    where
+      by : (t ≡ thread) ⊎ (t ≢ thread) → (place_of old).calls t ≡ true
+      by (inl e) = ap (place_of old).calls e ∙ has
+      by (inr ne) = sym (calls_other t ne) ∙ is
+
+  finish_on : (below : List Line) → IsBefore old (Finish thread ∷ below) → IsBefore new (Finish thread ∷ below)
+  finish_on below at =
+      let (next, steps) = finish_step below (place_of old).calls thread h.mark turned.ended h.e has h.turn in
+      record { place = stands_before (Finish thread ∷ below) (place_of new) next (moves ∙ ap (λ (p : Place). followed p h.e) at.place ∙ steps) }
+
+  open_on : opens h.mark ≡ false → (below : List Line) → IsBefore old (Open thread ∷ below) → IsBefore new (Open thread ∷ below)
+  open_on shut below at =
+      let (next, steps) = open_step below (place_of old).calls thread h.mark turned.ended h.e has shut h.turn in
+      record { place = stands_before (Open thread ∷ below) (place_of new) next (moves ∙ ap (λ (p : Place). followed p h.e) at.place ∙ steps) }
+
+  opened_on : opens h.mark ≡ true → (below : List Line) → IsBefore old (Open thread ∷ below) → IsBefore new below
+  opened_on lifts below at =
+      record { place = stands_before below (place_of new) (place_of old).calls (moves ∙ ap (λ (p : Place). followed p h.e) at.place ∙ opened_step below (place_of old).calls thread h.mark turned.ended h.e has lifts h.turn) }
+
+  pub finish_turned : (start : RunnerView) → ((below : List Line) → IsBefore start (Finish thread ∷ below) → IsBefore old (Finish thread ∷ below)) → (below : List Line) → IsBefore start (Finish thread ∷ below) → IsBefore new (Finish thread ∷ below)
+  finish_turned start place below at = finish_on below (place below at)
+
+  pub finish_calls : (start : RunnerView) → ((t : ℕ) → t ≢ thread → (place_of old).calls t ≡ (place_of start).calls t) → (t : ℕ) → t ≢ thread → (place_of new).calls t ≡ (place_of start).calls t
+  finish_calls start calls t ne = calls_other t ne ∙ calls t ne
+
+  pub open_turned : (start : RunnerView) → opens h.mark ≡ false → ((below : List Line) → IsBefore start (Open thread ∷ below) → IsBefore old (Open thread ∷ below)) → (below : List Line) → IsBefore start (Open thread ∷ below) → IsBefore new (Open thread ∷ below)
+  open_turned start shut place below at = open_on shut below (place below at)
+
+  pub open_calls : (start : RunnerView) → ((t : ℕ) → (place_of old).calls t ≡ true → (place_of start).calls t ≡ true) → (t : ℕ) → (place_of new).calls t ≡ true → (place_of start).calls t ≡ true
+  open_calls start calls t is = calls t (calls_fall t is)
+
+  pub turned_then : (start : RunnerView) → WhoStays start old → WhoStays start new
+  turned_then start who = who_then start old new who (turned_who old new thread turned h)
+
+  -- the turn has opened a window
+  pub opened_now : (start : RunnerView) (below : List Line) → opens h.mark ≡ true → IsBefore start (Open thread ∷ below) → ((below : List Line) → IsBefore start (Open thread ∷ below) → IsBefore old (Open thread ∷ below))
+      → ((t : ℕ) → (place_of old).calls t ≡ true → (place_of start).calls t ≡ true) → WhoStays start old → IsOpened start new thread below
+  opened_now start below lifts at place calls who = record {
+    place = opened_on lifts below (place below at);
+    calls = open_calls start calls;
+    who = turned_then start who;
   }
 
-  -- the call has ended
-  ended_dir : TurnsTo Ended (place_after lines trace) (place_after lines new) → (place_after lines new).dir ≡ P.dir
-  ended_dir to = ap (λ (p : Place). p.dir) to ∙ before_dir (place_after lines trace).left None (place_after lines trace).dir ∙ ap (λ (p : Place). p.dir) runs.place
+-- The thread has no call any more.
+pub finish_ended : (start r : RunnerView) (thread : ℕ) (below : List Line) → (place_of r).calls thread ≡ false → IsBefore r (Finish thread ∷ below) → ((t : ℕ) → t ≢ thread → (place_of r).calls t ≡ (place_of start).calls t) → WhoStays start r → IsEnded start r thread below
+finish_ended start r thread below none at calls who = record {
+  place = record { place = at.place ∙ finish_past thread below (place_of r).calls none };
+  calls = λ t. by t (cases_eq t thread);
+  who = who;
+}
+  where
+    by : (t : ℕ) → (t ≡ thread) ⊎ (t ≢ thread) → (place_of r).calls t ≡ (if eqb t thread then false else (place_of start).calls t)
+    by t (inl e) = ap (place_of r).calls e ∙ none ∙ ap (λ (b : Bool). cond b false ((place_of start).calls t)) (sym (eq-eqb t thread e))
+    by t (inr ne) = calls t ne ∙ ap (λ (b : Bool). cond b false ((place_of start).calls t)) (sym (ne_eqb t thread ne))
 
-  ended_running : TurnsTo Ended (place_after lines trace) (place_after lines new) → (place_after lines new).running ≡ None
-  ended_running to = ap (λ (p : Place). p.running) to ∙ before_running (place_after lines trace).left None (place_after lines trace).dir
-
-  none_runs : TurnsTo Ended (place_after lines trace) (place_after lines new) → (next : Option ℕ) (r : Running) → (place_after lines new).running ≡ Some r → next ≡ Some r.thread
-  none_runs to next r is = let clashes : None ≡ Some r = sym (ended_running to) ∙ is in absurd (cc)
-
-  ended_place : TurnsTo Ended (place_after lines trace) (place_after lines new) → (below : List Line) → P.left ≡ below → place_after lines new ≡ before below (place_after lines new).running (place_after lines new).dir
-  ended_place to below left = stands_before below (place_after lines new) None P.dir
-      (to ∙ ap (λ (p : Place). before p.left None p.dir) runs.place ∙ ap (λ (l : List Line). before l None P.dir) left)
-
-  left_of_finish : (below : List Line) → P ≡ before (Finish thread ∷ below) P.running P.dir → P.left ≡ below
-  left_of_finish below at = ap (λ (p : Place). p.left) (at ∙ finish_here thread below P.running P.dir is_here)
-
-  left_of_open : (below : List Line) → P ≡ before (Open thread ∷ below) P.running P.dir → P.left ≡ below
-  left_of_open below at = ap (λ (p : Place). p.left) (at ∙ open_here thread below P.running P.dir is_here)
-
-  pub finish_passed : TurnsTo Ended (place_after lines trace) (place_after lines new) → Passes lines old new (Finish thread)
-  finish_passed to = record {
-    place = λ below at. ended_place to below (left_of_finish below at);
-    like = λ d stands k. like_after d (declared d (Finish thread)) stands.0 refl refl refl (ended_dir to) (none_runs to (calling_behind thread d.calling)) k;
-  }
-
-  pub open_ended : TurnsTo Ended (place_after lines trace) (place_after lines new) → Passes lines old new (Open thread)
-  open_ended to = record {
-    place = λ below at. ended_place to below (left_of_open below at);
-    like = λ d stands k. like_after d (declared d (Open thread)) stands.0 refl refl refl (ended_dir to) (none_runs to d.calling) k;
-  }
-
-  -- the window was opened
-  opened_to : turns ≡ ToAnOpening → TurnsTo (Acted mark.Open) (place_after lines trace) (place_after lines new) → place_after lines new ≡ before P.left P.running P.dir
-  opened_to waits to = to ∙ ap (λ (p : Place). after_action p.turns mark.Open p) runs.place ∙ ap (λ (t : Turns). after_action t mark.Open P) (runs.turns_are ∙ waits)
-
-  pub open_passed : turns ≡ ToAnOpening → TurnsTo (Acted mark.Open) (place_after lines trace) (place_after lines new) → Passes lines old new (Open thread)
-  open_passed waits to = record {
-    place = λ below at. stands_before below (place_after lines new) P.running P.dir (opened_to waits to ∙ ap (λ (l : List Line). before l P.running P.dir) (left_of_open below at));
-    like = λ d stands k. like_after d (declared d (Open thread)) stands.0 refl refl refl
-        (ap (λ (p : Place). p.dir) (opened_to waits to) ∙ before_dir P.left P.running P.dir)
-        (λ r is. k.calling r (sym (before_running P.left P.running P.dir) ∙ ap (λ (p : Place). p.running) (sym (opened_to waits to)) ∙ is)) k;
-  }
-
--- A thread that has no call: its line is passed.
-module _ (lines : List Line) (trace : List Entry) (thread : ℕ) (call : Option RunningCall) (stands : Stands lines trace call) (none : IsOfThread thread call → ⊥) where
-  not_its : (c : Option RunningCall) → Stands lines trace c → (IsOfThread thread c → ⊥) → is_running thread (place_after lines trace).running ≡ false
-  not_its None k others = is_nobodys thread (place_after lines trace).running k.running
-  not_its (Some c) k others = is_anothers thread (place_after lines trace).running _ k.running others
-
-  still_calling : (r : Running) (calling : Option ℕ) → calling ≡ Some r.thread → r.thread ≢ thread → calling_behind thread calling ≡ Some r.thread
-  still_calling r calling is ne = ap (calling_behind thread) is ∙ ap (λ (b : Bool). cond b None (Some r.thread)) (ne_eqb r.thread thread ne)
-
-  another : (r : Running) → (place_after lines trace).running ≡ Some r → r.thread ≢ thread
-  another r is same = clash (sym (is_its thread (place_after lines trace).running r is same) ∙ not_its call stands none)
-
-  pub finish_none : Passes lines trace trace (Finish thread)
-  finish_none = record {
-    place = λ below at. stands_before below (place_after lines trace) (place_after lines trace).running (place_after lines trace).dir
-        (at ∙ finish_past thread below (place_after lines trace).running (place_after lines trace).dir (not_its call stands none));
-    like = λ d may k. record {
-      processes = k.processes;
-      threads = k.threads;
-      begun = k.begun ∙ may.0;
-      untouched = k.untouched;
-      dir = k.dir;
-      calling = λ r is. still_calling r d.calling (k.calling r is) (another r is);
-    };
-  }
-
-  pub open_none : Passes lines trace trace (Open thread)
-  open_none = record {
-    place = λ below at. stands_before below (place_after lines trace) (place_after lines trace).running (place_after lines trace).dir
-        (at ∙ open_past thread below (place_after lines trace).running (place_after lines trace).dir (not_its call stands none));
-    like = λ d may k. record {
-      processes = k.processes;
-      threads = k.threads;
-      begun = k.begun ∙ may.0;
-      untouched = k.untouched;
-      dir = k.dir;
-      calling = k.calling;
-    };
-  }
+pub open_ended : (start r : RunnerView) (thread : ℕ) (below : List Line) → (place_of r).calls thread ≡ false → IsBefore r (Open thread ∷ below) → ((t : ℕ) → (place_of r).calls t ≡ true → (place_of start).calls t ≡ true) → WhoStays start r → IsOpened start r thread below
+open_ended start r thread below none at calls who = record {
+  place = record { place = at.place ∙ open_past thread below (place_of r).calls none };
+  calls = calls;
+  who = who;
+}

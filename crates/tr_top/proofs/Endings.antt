@@ -1,89 +1,96 @@
 -- How a run ends, from how its parts ended.
-use Rattle.std.proofs.Common.{◌≡◌, ℕ, ◌+◌, List, [], ◌∷◌, length, get_or, refl, sym, ap, subst, ◌∙◌, arith, inl, inr, append-nil, Option, Some, None, Ok, Err, Bool, IsTrue, ◌↔◌}
-use Rattle.std.specs.Io.KnownBytes.{Appends, Keeps}
+use Rattle.std.proofs.Common.{◌≡◌, ℕ, ◌+◌, List, [], ◌∷◌, length, get_or, refl, sym, ap, subst, ◌∙◌, arith, inl, inr, append-nil, Option, Result, ◌++◌, Ok, Err, Bool, IsTrue, ◌↔◌, eqb}
 use Rattle.std.specs.Cmp.Lexicographic.{pointwise}
-use Rattle.std.proofs.Common.{eqb}
 use Rattle.std.proofs.lemmas.Slice.Eq.{slice_eq-Decides}
 use Rattle.std.proofs.lemmas.Bool.Decides.{Decides-eqb}
-use Rattle.pm_words.specs.Memory.{present_values}
 use Rattle.tr_types.specs.declared.entry.Entry.{Entry}
 use Rattle.tr_outside.specs.ImageBytes.{image_bytes}
-use Rattle.tr_outside.specs.Whole.{AppendsFront, ReadsUpTo}
-use Rattle.bus_machine.specs.View.{MachineView}
-use Rattle.bus_model.specs.Machine.{Bus}
-use Rattle.tr_top.specs.declared.log.Stop.{Stop}
-use Rattle.tr_top.specs.declared.log.Stop.TheVariants as stop
+use Rattle.tr_outside.specs.Whole.{ReadsUpTo}
 use Rattle.tr_script.specs.declared.script.Line.{Line}
 use Rattle.tr_script.specs.declared.status.Status.{Status}
 use Rattle.tr_script.specs.declared.status.Status.TheVariants.{Done, Usage, BadScript, ReadFault, WriteFault, NoMemory, Full}
-use Rattle.tr_top.specs.Along.{IsAtEnd}
 use Rattle.tr_script.specs.declared.reader.ScriptFault.{ScriptFault}
 use Rattle.tr_script.specs.declared.reader.ScriptFault.TheVariants.{BadLine}
 use Rattle.tr_script.specs.Grammar.{IsScript, text_limit}
 use Rattle.tr_script.specs.Places.{IsFirstBad}
 use Rattle.tr_script.specs.Reading.{OnBadLine}
-use Rattle.tr_text.specs.Text.{brief_texts}
-use Rattle.tr_top.specs.Run.{place_after}
-use Rattle.tr_top.specs.Running.{IsTied, Goes}
-use Rattle.tr_top.specs.Top.{Sinks, RunEnds, ReadsNoScript}
+use Rattle.tr_top.specs.declared.stop.Stop.{Stop}
+use Rattle.tr_top.specs.declared.stop.Stop.TheVariants as stop
+use Rattle.tr_top.specs.Along.{IsAtEnd}
+use Rattle.tr_top.specs.Telling.{texts}
+use Rattle.tr_top.specs.Run.{IsRun, last_words, place_after}
+use Rattle.tr_top.specs.Running.{RunnerView, Goes, Told, place_of}
+use Rattle.tr_top.specs.Top.{RunEnds, ReadsNoScript, sinks_of}
 use Rattle.tr_top.specs.Ending.{IsSaved, stop_status}
 
-abbrev sinks_of : Option (List ℕ) → ℕ → Option (List ℕ) → ℕ → Sinks
-sinks_of out out_faults saved saved_faults = record { out_written = out; out_faults = out_faults; saved_written = saved; saved_faults = saved_faults }
+-- all of a run that began with no entry
+module _ {T : Type 0} (old new : RunnerView) (out out' : Option (List ℕ)) (f f' : ℕ) where
+  trace_is : {r : Result T Stop} → old.core.trace ≡ [] → (goes : Goes old new out out' f f' r) → goes.more ≡ new.core.trace
+  trace_is none goes = sym (goes.gained ∙ ap (λ (t : List Entry). t ++ goes.more) none)
 
-appends_nothing : (taken : Option (List ℕ)) → Appends taken taken []
-appends_nothing None = tt
-appends_nothing (Some xs) = sym (append-nil xs)
-
-keeps_same : (taken now : Option (List ℕ)) → now ≡ taken → Keeps taken now
-keeps_same None now e = tt
-keeps_same (Some xs) now e = subst (Keeps (Some xs)) (sym e) refl
+  told_all : {r : Result T Stop} → old.core.trace ≡ [] → (goes : Goes old new out out' f f' r) → Told r out out' (texts old.detail new.core.trace)
+  told_all {r} none goes = subst (λ (t : List Entry). Told r out out' (texts old.detail t)) (trace_is none goes) goes.told
 
 -- the script was run to its end, and saving has ended so
-pub ends_saved : (status : Status) (lines : List Line) (m : MachineView) (old trace : List Entry) (out out' saved saved' : Option (List ℕ)) (f f' s s' : ℕ) → old ≡ [] → IsTied lines m trace → IsAtEnd (place_after lines trace) → Goes {T = Unit {0}} lines old trace out out' f f' (Ok tt) → IsSaved status saved saved' s s' (image_bytes (present_values m.bus.words)) → RunEnds (sinks_of out f saved s) (sinks_of out' f' saved' s') lines status trace
-ends_saved Done lines m old trace out out' saved saved' f f' s s' none tied ended goes is = record {
-  run = tied.run;
+ends_saved_at : (status : Status) (old new : RunnerView) (out out' saved saved' : Option (List ℕ)) (f f' s s' : ℕ) → old.core.trace ≡ [] → IsRun old.lines new.core.trace → IsAtEnd (place_after old.lines new.core.trace) → Goes {T = Unit {0}} old new out out' f f' (Ok tt)
+    → IsSaved status saved saved' s s' (image_bytes (last_words old.lines new.core.trace)) → RunEnds old.detail (sinks_of out f saved s) (sinks_of out' f' saved' s') old.lines status new.core.trace
+ends_saved_at Done old new out out' saved saved' f f' s s' none run ended goes is = record {
+  run = run;
   ended = ended;
-  out = goes.told out (subst (λ t. Appends out out (brief_texts t)) (sym none) (appends_nothing out));
-  saved = subst (λ (b : Bus). Appends saved saved' (image_bytes (present_values b.words))) tied.bus is;
-}
-ends_saved NoMemory lines m old trace out out' saved saved' f f' s s' none tied ended goes is = record {
-  run = tied.run;
-  out = (brief_texts trace, [], sym (append-nil (brief_texts trace)), goes.told out (subst (λ t. Appends out out (brief_texts t)) (sym none) (appends_nothing out)));
+  out = told_all old new out out' f f' none goes;
   saved = is;
 }
-ends_saved WriteFault lines m old trace out out' saved saved' f f' s s' none tied ended goes is = inr (record {
-  run = tied.run;
+ends_saved_at NoMemory old new out out' saved saved' f f' s s' none run ended goes is = record {
+  run = run;
+  out = (texts old.detail new.core.trace, [], sym (append-nil (texts old.detail new.core.trace)), told_all old new out out' f f' none goes);
+  saved = is;
+}
+ends_saved_at WriteFault old new out out' saved saved' f f' s s' none run ended goes is = inr (record {
+  run = run;
   ended = ended;
   cause = is.1;
-  out = goes.told out (subst (λ t. Appends out out (brief_texts t)) (sym none) (appends_nothing out));
-  saved = subst (λ (b : Bus). AppendsFront saved saved' (image_bytes (present_values b.words))) tied.bus is.0;
+  out = told_all old new out out' f f' none goes;
+  saved = is.0;
 })
-ends_saved Full lines m old trace out out' saved saved' f f' s s' none tied ended goes is = absurd is
-ends_saved Usage lines m old trace out out' saved saved' f f' s s' none tied ended goes is = absurd is
-ends_saved (BadScript line column) lines m old trace out out' saved saved' f f' s s' none tied ended goes is = absurd is
-ends_saved ReadFault lines m old trace out out' saved saved' f f' s s' none tied ended goes is = absurd is
+ends_saved_at Full old new out out' saved saved' f f' s s' none run ended goes is = absurd is
+ends_saved_at Usage old new out out' saved saved' f f' s s' none run ended goes is = absurd is
+ends_saved_at (BadScript line column) old new out out' saved saved' f f' s s' none run ended goes is = absurd is
+ends_saved_at ReadFault old new out out' saved saved' f f' s s' none run ended goes is = absurd is
+
+pub ends_saved : (status : Status) (old new : RunnerView) (out out' saved saved' : Option (List ℕ)) (f f' s s' : ℕ) → old.core.trace ≡ [] → IsRun new.lines new.core.trace → IsAtEnd (place_of new) → Goes {T = Unit {0}} old new out out' f f' (Ok tt)
+    → IsSaved status saved saved' s s' (image_bytes (last_words new.lines new.core.trace)) → RunEnds old.detail (sinks_of out f saved s) (sinks_of out' f' saved' s') old.lines status new.core.trace
+ends_saved status old new out out' saved saved' f f' s s' none run ended goes is =
+    ends_saved_at status old new out out' saved saved' f f' s s' none
+    (subst (λ (l : List Line). IsRun l new.core.trace) goes.lines run)
+    (subst (λ (l : List Line). IsAtEnd (place_after l new.core.trace)) goes.lines ended) goes
+    (subst (λ (l : List Line). IsSaved status saved saved' s s' (image_bytes (last_words l new.core.trace))) goes.lines is)
 
 -- the run stopped before its end
-pub ends_stopped : (why : Stop) (lines : List Line) (old trace : List Entry) (out out' saved : Option (List ℕ)) (f f' s : ℕ) → old ≡ [] → Goes {T = Unit {0}} lines old trace out out' f f' (Err why) → RunEnds (sinks_of out f saved s) (sinks_of out' f' saved s) lines (stop_status why) trace
-ends_stopped stop.Full lines old trace out out' saved f f' s none goes = record {
-  run = goes.run;
+ends_stopped_at : (why : Stop) (old new : RunnerView) (out out' saved : Option (List ℕ)) (f f' s : ℕ) → old.core.trace ≡ [] → IsRun old.lines new.core.trace → Goes {T = Unit {0}} old new out out' f f' (Err why)
+    → RunEnds old.detail (sinks_of out f saved s) (sinks_of out' f' saved s) old.lines (stop_status why) new.core.trace
+ends_stopped_at stop.Full old new out out' saved f f' s none run goes = record {
+  run = run;
   full = (goes.full refl).full;
-  due = (goes.full refl).due;
-  out = goes.told out (subst (λ t. Appends out out (brief_texts t)) (sym none) (appends_nothing out));
+  due = subst (λ (l : List Line). IsAtEnd (place_after l new.core.trace) → ⊥) goes.lines (goes.full refl).due;
+  out = told_all old new out out' f f' none goes;
   saved = (refl, refl);
 }
-ends_stopped stop.NoMemory lines old trace out out' saved f f' s none goes = record {
-  run = goes.run;
-  out = goes.told out (subst (λ t. Appends out out (brief_texts t)) (sym none) (appends_nothing out));
+ends_stopped_at stop.NoMemory old new out out' saved f f' s none run goes = record {
+  run = run;
+  out = told_all old new out out' f f' none goes;
   saved = (refl, refl);
 }
-ends_stopped stop.OutFailed lines old trace out out' saved f f' s none goes = inl (record {
-  run = goes.run;
+ends_stopped_at stop.OutFailed old new out out' saved f f' s none run goes = inl (record {
+  run = run;
   cause = goes.cause refl;
-  out = goes.told out (subst (λ t. Appends out out (brief_texts t)) (sym none) (appends_nothing out));
+  out = told_all old new out out' f f' none goes;
   saved = (refl, refl);
 })
+
+pub ends_stopped : (why : Stop) (old new : RunnerView) (out out' saved : Option (List ℕ)) (f f' s : ℕ) → old.core.trace ≡ [] → IsRun new.lines new.core.trace → Goes {T = Unit {0}} old new out out' f f' (Err why)
+    → RunEnds old.detail (sinks_of out f saved s) (sinks_of out' f' saved s) old.lines (stop_status why) new.core.trace
+ends_stopped why old new out out' saved f f' s none run goes =
+    ends_stopped_at why old new out out' saved f f' s none (subst (λ (l : List Line). IsRun l new.core.trace) goes.lines run) goes
 
 -- one word of the command line
 pub one_item : {A : Type 0} (xs : List A) (x : A) → length xs ≡ 1 → x ≡ get_or xs 0 x → xs ≡ x ∷ []

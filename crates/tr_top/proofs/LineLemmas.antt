@@ -1,175 +1,143 @@
 -- What each line of a script leaves: where the script stands, and what has been started.
-use Rattle.std.proofs.Common.{◌≡◌, ℕ, List, [], ◌∷◌, ◌++◌, Bool, true, false, cond, Option, Some, None, refl, sym, ap, subst, ◌∙◌, eq-eqb}
+use Rattle.std.proofs.Common.{◌≡◌, ◌≢◌, ℕ, List, [], ◌∷◌, ◌++◌, map, Bool, true, false, cond, if◌then◌else◌, ◌⊎◌, Option, Some, None, inl, inr, refl, sym, ap, subst, ◌∙◌, eq-eqb, ne_eqb, eqb}
+use Rattle.std.proofs.lemmas.Bool.{cases_eq}
 use Rattle.std.proofs.lemmas.List.{map-append}
-use Rattle.zo_layout.specs.Layout.{page_at, root_page}
-use Rattle.tr_model.specs.World.{World, stepped}
-use Rattle.tr_types.specs.declared.action.Answer.TheVariants.{Fault}
-use Rattle.tr_types.specs.declared.action.FaultKind.{FaultKind}
 use Rattle.tr_types.specs.declared.command.Command.{Command}
 use Rattle.tr_types.specs.declared.entry.Entry.{Entry}
 use Rattle.tr_types.specs.declared.entry.Entry.TheVariants as entry
 use Rattle.tr_types.specs.declared.permission.Cred.{Cred}
-use Rattle.tr_script.specs.Grammar.{Declared, declared, calling_behind, MayStand}
+use Rattle.tr_model.specs.Worlds.{World, stepped, put}
+use Rattle.tr_script.specs.Grammar.{Declared, declared, calling_behind}
 use Rattle.tr_script.specs.declared.script.Line.{Line}
 use Rattle.tr_script.specs.declared.script.Line.TheVariants.{Mkfs, Process, Thread, Call, Do, Finish, Open, Stray}
-use Rattle.tr_top.specs.Along.{Place, ToTheEnd, Running, MayFollow, rest, before, behind_call, followed, place_at}
-use Rattle.tr_top.specs.Run.{pages_made, world_after, place_after}
-use Rattle.tr_top.specs.Running.{IsLike, IsBefore, Passes}
-use Rattle.tr_top.proofs.PlaceLemmas.{before_running, before_dir, stands_before, finish_here, is_its}
-use Rattle.tr_top.proofs.RunLemmas.{world_more, place_more}
+use Rattle.tr_core.specs.Core.{Adds, IsHappened, world_at}
+use Rattle.tr_core.specs.declared.event.FaultEvent.TheVariants as event
+use Rattle.tr_top.specs.Along.{Place, ToTheEnd, before, followed, place_at}
+use Rattle.tr_top.specs.Run.{place_after}
+use Rattle.tr_top.specs.Running.{RunnerView, IsBefore, IsNextLine, IsEnded, IsOpened, Passes, place_of}
+use Rattle.tr_top.proofs.PlaceLemmas.{before_calls, behind_calls, stands_before, finish_here, put_same}
+use Rattle.tr_top.proofs.AlongLemmas.{adds_world, adds_place, event_stray, clash}
 
--- a call's line leaves its call running
-pub behind_running : (lines : List Line) (r : Option Running) (d : ℕ) → (behind_call lines r d).running ≡ r
-behind_running [] r d = before_running [] r d
-behind_running (Mkfs pages ∷ lines) r d = before_running lines r d
-behind_running (Process process cred ∷ lines) r d = before_running lines r d
-behind_running (Thread thread process ∷ lines) r d = before_running lines r d
-behind_running (Call thread command ∷ lines) r d = before_running lines r d
-behind_running (Do thread command ∷ lines) r d = refl
-behind_running (Finish thread ∷ lines) r d = before_running lines r d
-behind_running (Open thread ∷ lines) r d = before_running lines r d
-behind_running (Stray thread addr word ∷ lines) r d = before_running lines r d
+-- the place after one more entry
+pub more_place : (old new : RunnerView) (e : Entry) → new.lines ≡ old.lines → Adds old.core new.core e → place_of new ≡ followed (place_of old) e
+more_place old new e lines adds = ap (λ (l : List Line). place_after l new.core.trace) lines ∙ adds_place old.lines old.core new.core e adds
 
-pub behind_dir : (lines : List Line) (r : Option Running) (d : ℕ) → (behind_call lines r d).dir ≡ d
-behind_dir [] r d = before_dir [] r d
-behind_dir (Mkfs pages ∷ lines) r d = before_dir lines r d
-behind_dir (Process process cred ∷ lines) r d = before_dir lines r d
-behind_dir (Thread thread process ∷ lines) r d = before_dir lines r d
-behind_dir (Call thread command ∷ lines) r d = before_dir lines r d
-behind_dir (Do thread command ∷ lines) r d = refl
-behind_dir (Finish thread ∷ lines) r d = before_dir lines r d
-behind_dir (Open thread ∷ lines) r d = before_dir lines r d
-behind_dir (Stray thread addr word ∷ lines) r d = before_dir lines r d
+-- A line that gave one entry.
+passes_one : (old new : RunnerView) (e : Entry) (line : Line) (below : List Line) (d : Declared) (calls : ℕ → Bool) → new.lines ≡ old.lines → Adds old.core new.core e → IsNextLine old line below d
+    → followed (before (line ∷ below) (place_of old).calls) e ≡ before below calls
+    → map (λ p. p.0) (stepped (world_at old.core) e).base.machine.bus.processes ≡ (declared d line).processes
+    → (stepped (world_at old.core) e).base.machine.bus.threads ≡ (declared d line).threads
+    → (declared d line).begun ≡ true
+    → ((t : ℕ) → calls t ≡ true → (declared d line).calling ≡ Some t)
+    → Passes new line below d
+passes_one old new e line below d calls lines adds next moves processes threads begun calling =
+    let at : place_of new ≡ before below calls = more_place old new e lines adds ∙ ap (λ (p : Place). followed p e) next.place.place ∙ moves in
+    let world = adds_world old.core new.core e adds in
+    record {
+      place = record { place = stands_before below (place_of new) calls at };
+      like = record {
+        processes = ap (λ (w : World). map (λ p. p.0) w.base.machine.bus.processes) world ∙ processes;
+        threads = ap (λ (w : World). w.base.machine.bus.threads) world ∙ threads;
+        fresh = λ b. clash (sym begun ∙ b);
+        calling = λ t is. calling t (sym (ap (λ (p : Place). p.calls t) at ∙ ap (λ (c : ℕ → Bool). c t) (before_calls below calls)) ∙ is);
+      };
+    }
 
--- where a line gives its entry
-pub next_follows : (p : Place) (line : Line) (below : List Line) (e : Entry) (r : Option Running) (d : ℕ) → p ≡ before (line ∷ below) r d → MayFollow (before (line ∷ below) r d) e → MayFollow p e
-next_follows p line below e r d is may = subst (λ (q : Place). MayFollow q e) (sym is) may
+pub passes_mkfs : (old new : RunnerView) (pages : ℕ) (below : List Line) (d : Declared) → new.lines ≡ old.lines → IsHappened old.core new.core (event.Mkfs pages) → IsNextLine old (Mkfs pages) below d → Passes new (Mkfs pages) below d
+passes_mkfs old new pages below d lines h next =
+    passes_one old new (entry.Mkfs pages) (Mkfs pages) below d (place_of old).calls lines (subst (Adds old.core new.core) h.of h.adds) next
+    refl next.like.processes next.like.threads refl next.like.calling
 
--- A line that gives one entry has passed.
-pub passes_added : (lines : List Line) (old new : List Entry) (e : Entry) (line : Line) → new ≡ old ++ e ∷ []
-    → ((below : List Line) → place_after lines old ≡ before (line ∷ below) (place_after lines old).running (place_after lines old).dir → (r : Option Running) × (d : ℕ) × (followed (place_after lines old) e ≡ before below r d))
-    → ((d : Declared) → MayStand d line → IsLike lines (world_after lines old).machine (place_after lines old) d → IsLike lines (stepped (world_after lines old) e).machine (followed (place_after lines old) e) (declared d line))
-    → Passes lines old new line
-passes_added lines old new e line is place like = record {
-  place = λ below at.
-      let (r, d, then) = place below at in
-      stands_before below (place_after lines new) r d (ap (place_after lines) is ∙ place_more lines old e ∙ then);
-  like = λ d stands k.
-      subst (λ (t : List Entry). IsLike lines (world_after lines t).machine (place_after lines t) (declared d line)) (sym is)
-      (subst (λ (w : World). IsLike lines w.machine (place_after lines (old ++ e ∷ [])) (declared d line)) (sym (world_more lines old e))
-      (subst (λ (p : Place). IsLike lines (stepped (world_after lines old) e).machine p (declared d line)) (sym (place_more lines old e)) (like d stands k)));
-}
+pub passes_process : (old new : RunnerView) (process : ℕ) (cred : Cred) (below : List Line) (d : Declared) → new.lines ≡ old.lines → IsHappened old.core new.core (event.Process process cred) → IsNextLine old (Process process cred) below d → Passes new (Process process cred) below d
+passes_process old new process cred below d lines h next =
+    passes_one old new (entry.Process process cred) (Process process cred) below d (place_of old).calls lines (subst (Adds old.core new.core) h.of h.adds) next
+    refl
+    (map-append (λ p. p.0) (world_at old.core).base.machine.bus.processes ((process, cred) ∷ []) ∙ ap (λ (l : List ℕ). l ++ process ∷ []) next.like.processes)
+    next.like.threads refl next.like.calling
 
-clash : {T : Type 0} → true ≡ false → T
-clash e = absurd (cc)
+pub passes_thread : (old new : RunnerView) (thread process : ℕ) (below : List Line) (d : Declared) → new.lines ≡ old.lines → IsHappened old.core new.core (event.Thread thread process) → IsNextLine old (Thread thread process) below d → Passes new (Thread thread process) below d
+passes_thread old new thread process below d lines h next =
+    passes_one old new (entry.Thread thread process) (Thread thread process) below d (place_of old).calls lines (subst (Adds old.core new.core) h.of h.adds) next
+    refl next.like.processes
+    (ap (λ (l : List (ℕ × ℕ)). l ++ (thread, process) ∷ []) next.like.threads)
+    refl next.like.calling
 
-abbrev thread_or : Option Running → ℕ
-thread_or None = 0
-thread_or (Some r) = r.thread
+pub passes_stray : (old new : RunnerView) (thread addr word : ℕ) (below : List Line) (d : Declared) → new.lines ≡ old.lines → IsHappened old.core new.core (event.Stray thread addr word) → IsNextLine old (Stray thread addr word) below d → Passes new (Stray thread addr word) below d
+passes_stray old new thread addr word below d lines h next =
+    let (answer, is) = event_stray thread addr word h.e h.of in
+    passes_one old new (entry.Stray thread addr word answer) (Stray thread addr word) below d (place_of old).calls lines (subst (Adds old.core new.core) is h.adds) next
+    refl next.like.processes next.like.threads refl next.like.calling
 
-module _ (lines : List Line) (w : World) (p : Place) where
-  pub like_mkfs : (pages : ℕ) (d : Declared) → pages ≡ pages_made lines → IsLike lines w.machine p d → IsLike lines (stepped w (entry.Mkfs pages)).machine (followed p (entry.Mkfs pages)) (declared d (Mkfs pages))
-  like_mkfs pages d made k = record {
-    processes = k.processes;
-    threads = k.threads;
-    begun = refl;
-    untouched = λ b. clash b;
-    dir = λ _. before_dir (rest p.left) p.running (page_at (root_page pages)) ∙ ap (λ (n : ℕ). page_at (root_page n)) made;
-    calling = λ r is. k.calling r (sym (before_running (rest p.left) p.running (page_at (root_page pages))) ∙ is);
-  }
+-- a thread's call is the only one
+put_calling : (calls : ℕ → Bool) (thread : ℕ) (calling : Option ℕ) → calling ≡ None → ((t : ℕ) → calls t ≡ true → calling ≡ Some t) → (t : ℕ) → put calls thread true t ≡ true → Some thread ≡ Some t
+put_calling calls thread calling none like t is = by (cases_eq t thread)
+  where
+    by : (t ≡ thread) ⊎ (t ≢ thread) → Some thread ≡ Some t
+    by (inl e) = ap Some (sym e)
+    by (inr ne) =
+        let had : calls t ≡ true = ap (λ (b : Bool). cond b true (calls t)) (sym (ne_eqb t thread ne)) ∙ is in
+        let wrong : None ≡ Some t = sym none ∙ like t had in
+        absurd (cc)
 
-  pub like_process : (process : ℕ) (cred : Cred) (d : Declared) → MayStand d (Process process cred) → IsLike lines w.machine p d → IsLike lines (stepped w (entry.Process process cred)).machine (followed p (entry.Process process cred)) (declared d (Process process cred))
-  like_process process cred d stands k = record {
-    processes = map-append (λ (q : ℕ × Cred). q.0) w.machine.bus.processes ((process, cred) ∷ []) ∙ ap (λ (l : List ℕ). l ++ process ∷ []) k.processes;
-    threads = k.threads;
-    begun = refl;
-    untouched = λ b. clash b;
-    dir = λ _. before_dir (rest p.left) p.running p.dir ∙ k.dir (k.begun ∙ stands.0);
-    calling = λ r is. k.calling r (sym (before_running (rest p.left) p.running p.dir) ∙ is);
-  }
-
-  pub like_thread : (thread process : ℕ) (d : Declared) → MayStand d (Thread thread process) → IsLike lines w.machine p d → IsLike lines (stepped w (entry.Thread thread process)).machine (followed p (entry.Thread thread process)) (declared d (Thread thread process))
-  like_thread thread process d stands k = record {
-    processes = k.processes;
-    threads = ap (λ (l : List (ℕ × ℕ)). l ++ (thread, process) ∷ []) k.threads;
-    begun = refl;
-    untouched = λ b. clash b;
-    dir = λ _. before_dir (rest p.left) p.running p.dir ∙ k.dir (k.begun ∙ stands.0);
-    calling = λ r is. k.calling r (sym (before_running (rest p.left) p.running p.dir) ∙ is);
-  }
-
-  pub like_stray : (thread addr word : ℕ) (kind : FaultKind) (d : Declared) → MayStand d (Stray thread addr word) → IsLike lines w.machine p d → IsLike lines (stepped w (entry.Stray thread addr word (Fault kind))).machine (followed p (entry.Stray thread addr word (Fault kind))) (declared d (Stray thread addr word))
-  like_stray thread addr word kind d stands k = record {
-    processes = k.processes;
-    threads = k.threads;
-    begun = refl;
-    untouched = λ b. clash b;
-    dir = λ _. before_dir (rest p.left) p.running p.dir ∙ k.dir (k.begun ∙ stands.0);
-    calling = λ r is. k.calling r (sym (before_running (rest p.left) p.running p.dir) ∙ is);
-  }
-
-  pub like_call : (thread : ℕ) (command : Command) (d : Declared) → d.begun ≡ true → IsLike lines w.machine p d → IsLike lines (stepped w (entry.Call thread command)).machine (followed p (entry.Call thread command)) (declared d (Call thread command))
-  like_call thread command d begun k = record {
-    processes = k.processes;
-    threads = k.threads;
-    begun = refl;
-    untouched = λ b. clash b;
-    dir = λ _. behind_dir p.left (Some (record { thread = thread; command = command })) p.dir ∙ k.dir (k.begun ∙ begun);
-    calling = λ r is.
-        let same : Some (record { thread = thread; command = command }) ≡ Some r = sym (behind_running p.left (Some (record { thread = thread; command = command })) p.dir) ∙ is in
-        ap Some (named same);
-  }
-    where
-      named : {t : ℕ} {c : Command} {r : Running} → Some (record { thread = t; command = c }) ≡ Some r → t ≡ r.thread
-      named e = ap (λ (o : Option Running). thread_or o) e
-
--- The lines that give one entry, each.
-pub passes_mkfs : (lines : List Line) (old new : List Entry) (pages : ℕ) → pages ≡ pages_made lines → new ≡ old ++ entry.Mkfs pages ∷ [] → Passes lines old new (Mkfs pages)
-passes_mkfs lines old new pages made is = passes_added lines old new (entry.Mkfs pages) (Mkfs pages) is
-    (λ below at. ((place_after lines old).running, page_at (root_page pages), ap (λ (p : Place). followed p (entry.Mkfs pages)) at))
-    (λ d stands k. like_mkfs lines (world_after lines old) (place_after lines old) pages d made k)
-
-pub passes_process : (lines : List Line) (old new : List Entry) (process : ℕ) (cred : Cred) → new ≡ old ++ entry.Process process cred ∷ [] → Passes lines old new (Process process cred)
-passes_process lines old new process cred is = passes_added lines old new (entry.Process process cred) (Process process cred) is
-    (λ below at. ((place_after lines old).running, (place_after lines old).dir, ap (λ (p : Place). followed p (entry.Process process cred)) at))
-    (λ d stands k. like_process lines (world_after lines old) (place_after lines old) process cred d stands k)
-
-pub passes_thread : (lines : List Line) (old new : List Entry) (thread process : ℕ) → new ≡ old ++ entry.Thread thread process ∷ [] → Passes lines old new (Thread thread process)
-passes_thread lines old new thread process is = passes_added lines old new (entry.Thread thread process) (Thread thread process) is
-    (λ below at. ((place_after lines old).running, (place_after lines old).dir, ap (λ (p : Place). followed p (entry.Thread thread process)) at))
-    (λ d stands k. like_thread lines (world_after lines old) (place_after lines old) thread process d stands k)
-
-pub passes_fault : (lines : List Line) (old new : List Entry) (thread addr word : ℕ) (kind : FaultKind) → new ≡ old ++ entry.Stray thread addr word (Fault kind) ∷ [] → Passes lines old new (Stray thread addr word)
-passes_fault lines old new thread addr word kind is = passes_added lines old new (entry.Stray thread addr word (Fault kind)) (Stray thread addr word) is
-    (λ below at. ((place_after lines old).running, (place_after lines old).dir, ap (λ (p : Place). followed p (entry.Stray thread addr word (Fault kind))) at))
-    (λ d stands k. like_stray lines (world_after lines old) (place_after lines old) thread addr word kind d stands k)
-
-pub passes_call : (lines : List Line) (old new : List Entry) (thread : ℕ) (command : Command) → new ≡ old ++ entry.Call thread command ∷ [] → Passes lines old new (Call thread command)
-passes_call lines old new thread command is = passes_added lines old new (entry.Call thread command) (Call thread command) is
-    (λ below at. (Some (record { thread = thread; command = command }), (place_after lines old).dir, ap (λ (p : Place). followed p (entry.Call thread command)) at))
-    (λ d stands k. like_call lines (world_after lines old) (place_after lines old) thread command d stands.0 k)
+pub passes_call : (old new : RunnerView) (thread : ℕ) (command : Command) (below : List Line) (d : Declared) → new.lines ≡ old.lines → Adds old.core new.core (entry.Call thread command) → IsNextLine old (Call thread command) below d → Passes new (Call thread command) below d
+passes_call old new thread command below d lines adds next =
+    passes_one old new (entry.Call thread command) (Call thread command) below d (put (place_of old).calls thread true) lines adds next
+    refl next.like.processes next.like.threads refl
+    (put_calling (place_of old).calls thread d.calling next.stands.3 next.like.calling)
 
 -- `do` is `call` and `finish`.
-do_place : (lines : List Line) (old mid : List Entry) (thread : ℕ) (command : Command) (below : List Line) → mid ≡ old ++ entry.Call thread command ∷ [] → place_after lines old ≡ before (Do thread command ∷ below) (place_after lines old).running (place_after lines old).dir
-    → place_after lines mid ≡ before (Finish thread ∷ below) (place_after lines mid).running (place_after lines mid).dir
-do_place lines old mid thread command below is at =
-    let r : Option Running = Some (record { thread = thread; command = command }) in
-    let d = (place_after lines old).dir in
-    let then : place_after lines mid ≡ place_at below ToTheEnd r d = ap (place_after lines) is ∙ place_more lines old (entry.Call thread command) ∙ ap (λ (p : Place). followed p (entry.Call thread command)) at in
-    stands_before (Finish thread ∷ below) (place_after lines mid) r d (then ∙ sym (finish_here thread below r d (is_its thread r (record { thread = thread; command = command }) refl refl)))
+pub do_finishes : (old mid : RunnerView) (thread : ℕ) (command : Command) (below : List Line) → mid.lines ≡ old.lines → Adds old.core mid.core (entry.Call thread command) → IsBefore old (Do thread command ∷ below) → IsBefore mid (Finish thread ∷ below)
+do_finishes old mid thread command below lines adds at =
+    let calls : ℕ → Bool = put (place_of old).calls thread true in
+    let made : place_of mid ≡ place_at below (ToTheEnd thread) calls = more_place old mid (entry.Call thread command) lines adds ∙ ap (λ (p : Place). followed p (entry.Call thread command)) at.place in
+    record { place = stands_before (Finish thread ∷ below) (place_of mid) calls (made ∙ sym (finish_here thread below calls (put_same (place_of old).calls thread true))) }
 
-pub do_finishes : (lines : List Line) (old mid : List Entry) (thread : ℕ) (command : Command) → mid ≡ old ++ entry.Call thread command ∷ [] → IsBefore lines old (Do thread command) → IsBefore lines mid (Finish thread)
-do_finishes lines old mid thread command is next = record { below = next.below; place = do_place lines old mid thread command next.below is next.place }
+-- the thread's call has ended, if it had one
+others_call : (thread t : ℕ) (old new : ℕ → Bool) → new t ≡ (if eqb t thread then false else old t) → new t ≡ true → (t ≢ thread) × (old t ≡ true)
+others_call thread t old new is has = by (cases_eq t thread)
+  where
+    by : (t ≡ thread) ⊎ (t ≢ thread) → (t ≢ thread) × (old t ≡ true)
+    by (inl e) = clash (sym has ∙ is ∙ ap (λ (b : Bool). cond b false (old t)) (eq-eqb t thread e))
+    by (inr ne) = (ne, ap (λ (b : Bool). cond b false (old t)) (sym (ne_eqb t thread ne)) ∙ sym is ∙ has)
 
-no_longer : (thread : ℕ) → calling_behind thread (Some thread) ≡ None
-no_longer thread = ap (λ (b : Bool). cond b None (Some thread)) (eq-eqb thread thread refl)
+pub passes_do : (old mid new : RunnerView) (thread : ℕ) (command : Command) (below : List Line) (d : Declared) → mid.lines ≡ old.lines → Adds old.core mid.core (entry.Call thread command) → IsEnded mid new thread below → IsNextLine old (Do thread command) below d → Passes new (Do thread command) below d
+passes_do old mid new thread command below d lines adds ended next =
+    let world = adds_world old.core mid.core (entry.Call thread command) adds in
+    record {
+      place = ended.place;
+      like = record {
+        processes = ap (λ (l : List (ℕ × Cred)). map (λ p. p.0) l) ended.who.processes ∙ ap (λ (w : World). map (λ p. p.0) w.base.machine.bus.processes) world ∙ next.like.processes;
+        threads = ended.who.threads ∙ ap (λ (w : World). w.base.machine.bus.threads) world ∙ next.like.threads;
+        fresh = λ b. clash b;
+        calling = λ t is.
+            let (ne, had) = others_call thread t (place_of mid).calls (place_of new).calls (ended.calls t) is in
+            let mid_calls : (place_of mid).calls t ≡ put (place_of old).calls thread true t = ap (λ (p : Place). p.calls t) (more_place old mid (entry.Call thread command) lines adds) ∙ ap (λ (c : ℕ → Bool). c t) (behind_calls (place_of old).left (put (place_of old).calls thread true)) in
+            let same : Some thread ≡ Some t = put_calling (place_of old).calls thread d.calling next.stands.3 next.like.calling t (sym mid_calls ∙ had) in
+            let wrong : thread ≡ t = cc in
+            absurd (ne (sym wrong));
+      };
+    }
 
-pub passes_do : (lines : List Line) (old mid new : List Entry) (thread : ℕ) (command : Command) → mid ≡ old ++ entry.Call thread command ∷ [] → Passes lines mid new (Finish thread) → Passes lines old new (Do thread command)
-passes_do lines old mid new thread command is finished = record {
-  place = λ below at. finished.place below (do_place lines old mid thread command below is at);
-  like = λ d stands k.
-      let given = (passes_call lines old mid thread command is).like d stands k in
-      let done = finished.like (declared d (Call thread command)) (refl, stands.1) given in
-      let same : None ≡ d.calling = sym stands.3 in
-      subst (λ (c : Option ℕ). IsLike lines (world_after lines new).machine (place_after lines new) (record { begun = true; processes = d.processes; threads = d.threads; calling = c })) (no_longer thread ∙ same) done;
+pub passes_finish : (old new : RunnerView) (thread : ℕ) (below : List Line) (d : Declared) → IsEnded old new thread below → IsNextLine old (Finish thread) below d → Passes new (Finish thread) below d
+passes_finish old new thread below d ended next = record {
+  place = ended.place;
+  like = record {
+    processes = ap (λ (l : List (ℕ × Cred)). map (λ p. p.0) l) ended.who.processes ∙ next.like.processes;
+    threads = ended.who.threads ∙ next.like.threads;
+    fresh = λ b. clash b;
+    calling = λ t is.
+        let (ne, had) = others_call thread t (place_of old).calls (place_of new).calls (ended.calls t) is in
+        ap (calling_behind thread) (next.like.calling t had) ∙ ap (λ (b : Bool). cond b None (Some t)) (ne_eqb t thread ne);
+  };
+}
+
+pub passes_open : (old new : RunnerView) (thread : ℕ) (below : List Line) (d : Declared) → IsOpened old new thread below → IsNextLine old (Open thread) below d → Passes new (Open thread) below d
+passes_open old new thread below d opened next = record {
+  place = opened.place;
+  like = record {
+    processes = ap (λ (l : List (ℕ × Cred)). map (λ p. p.0) l) opened.who.processes ∙ next.like.processes;
+    threads = opened.who.threads ∙ next.like.threads;
+    fresh = λ b. clash b;
+    calling = λ t is. next.like.calling t (opened.calls t is);
+  };
 }

@@ -1,53 +1,54 @@
--- A run with one more entry.
-use Rattle.std.proofs.Common.{◌≡◌, ℕ, ◌+◌, ◌*◌, ◌/◌, ◌≤◌, ◌<◌, List, [], ◌∷◌, ◌++◌, length, refl, sym, ap, subst, ◌∙◌, arith, append_assoc, append-nil, Option, Some, None, Ok, Err, false, OnOk}
-use Rattle.std.proofs.lemmas.List.FromFn.{length-map-range_with_len}
-use Rattle.std.specs.declared.result.Result.{Result}
+-- Parts of a run, and what each has told.
+use Rattle.std.proofs.Common.{◌≡◌, ℕ, ◌≤◌, List, [], ◌∷◌, ◌++◌, length, Option, Some, None, Result, Ok, Err, OnOk, false, refl, sym, ap, subst, ◌∙◌, arith, append_assoc, append-nil}
 use Rattle.std.specs.Io.KnownBytes.{Appends}
-use Rattle.pm_words.proofs.WordLemmas.{length_all_durable}
-use Rattle.kern_model.specs.KernelView.{pages_of}
-use Rattle.kern_model.specs.NewImage.{new_image, new_word}
-use Rattle.bus_model.specs.Machine.{Bus, HasRegisters, bus_over}
-use Rattle.tr_model.specs.World.{World, stepped, MayCome, world_of}
 use Rattle.tr_types.specs.declared.entry.Entry.{Entry}
-use Rattle.tr_types.proofs.FoldLemmas.{state_after_more, Each_more}
-use Rattle.bus_machine.specs.View.{MachineView}
 use Rattle.tr_outside.specs.Causes.{Rose}
 use Rattle.tr_outside.specs.Whole.{AppendsFront}
+use Rattle.tr_text.specs.Text.{brief_text, brief_texts, full_text, full_texts}
 use Rattle.tr_script.specs.declared.script.Line.{Line}
-use Rattle.tr_text.specs.Text.{brief_text, brief_texts}
-use Rattle.tr_top.specs.declared.log.Stop.{Stop}
-use Rattle.tr_top.specs.declared.log.Stop.TheVariants.{Full, NoMemory, OutFailed}
-use Rattle.tr_top.specs.Along.{Place, Turns, Resting, MayFollow, IsNext, IsAtEnd, followed, start_of}
-use Rattle.tr_top.specs.Run.{IsRun, pages_made, world_after, place_after, opening}
-use Rattle.tr_top.specs.Running.{Added, Goes, IsTied, IsSound, IsFullAt, IsTimeless}
-use Rattle.tr_model.proofs.Confined.{confined}
-use Rattle.bus_model.proofs.MachineLemmas.{registers_first}
+use Rattle.tr_core.specs.declared.fault.CoreFault.{CoreFault}
+use Rattle.tr_core.specs.declared.fault.CoreFault.TheVariants as fault
+use Rattle.tr_top.specs.declared.stop.Stop.{Stop}
+use Rattle.tr_top.specs.declared.stop.Stop.TheVariants.{Full, NoMemory, OutFailed}
+use Rattle.tr_top.specs.declared.teller.Detail.{Detail}
+use Rattle.tr_top.specs.declared.teller.Detail.TheVariants as detail
+use Rattle.tr_top.specs.Ending.{stop_for}
+use Rattle.tr_top.specs.Telling.{text, texts}
+use Rattle.tr_types.specs.declared.command.Command.{Command}
+use Rattle.tr_types.specs.declared.entry.Entry.TheVariants as entry
+use Rattle.tr_core.specs.Core.{CoreView, Adds, IsOfEvent, GivesAs, TurnsAs, HappensAs}
+use Rattle.tr_core.specs.declared.event.FaultEvent.{FaultEvent}
+use Rattle.tr_core.specs.declared.limits.TheConstants.{TRACE_LIMIT}
+use Rattle.tr_top.specs.Along.{MayFollow}
+use Rattle.tr_top.specs.Running.{RunnerView, Told, TellsEntry, Goes, IsFullAt, IsTurning, place_of}
+use Rattle.tr_top.proofs.PlaceLemmas.{not_at_end}
+use Rattle.tr_top.proofs.AlongLemmas.{event_entry}
 
-pub world_more : (lines : List Line) (t : List Entry) (e : Entry) → world_after lines (t ++ e ∷ []) ≡ stepped (world_after lines t) e
-world_more lines t e = state_after_more stepped (world_of (opening lines)) t e
+-- The texts of two parts.
+brief_both : (a b : List Entry) → brief_texts (a ++ b) ≡ brief_texts a ++ brief_texts b
+brief_both [] b = refl
+brief_both (x ∷ a) b = ap (λ (l : List ℕ). brief_text x ++ l) (brief_both a b) ∙ sym (append_assoc (brief_text x) (brief_texts a) (brief_texts b))
 
-pub place_more : (lines : List Line) (t : List Entry) (e : Entry) → place_after lines (t ++ e ∷ []) ≡ followed (place_after lines t) e
-place_more lines t e = state_after_more followed (start_of lines) t e
+full_both : (a b : List Entry) → full_texts (a ++ b) ≡ full_texts a ++ full_texts b
+full_both [] b = refl
+full_both (x ∷ a) b = ap (λ (l : List ℕ). full_text x ++ l) (full_both a b) ∙ sym (append_assoc (full_text x) (full_texts a) (full_texts b))
 
-pub length_more : (t : List Entry) (e : Entry) → length (t ++ e ∷ []) ≡ length t + 1
-length_more [] e = refl
-length_more (x ∷ t) e = omega (arith, length_more t e)
+texts_both : (d : Detail) (a b : List Entry) → texts d (a ++ b) ≡ texts d a ++ texts d b
+texts_both detail.Brief a b = brief_both a b
+texts_both detail.Full a b = full_both a b
 
-pub run_more : (lines : List Line) (t : List Entry) (e : Entry) → IsRun lines t → MayFollow (place_after lines t) e → MayCome (world_after lines t) e → IsSound (world_after lines t) e → length t < 4194304 → IsRun lines (t ++ e ∷ [])
-run_more lines t e run follows comes sound room = record {
-  follows = Each_more _ _ _ t e run.follows follows;
-  allowed = Each_more _ _ _ t e run.allowed comes;
-  right = Each_more _ _ _ t e run.right sound.right;
-  windows = Each_more _ _ _ t e run.windows sound.windows;
-  confined = Each_more _ _ _ t e run.confined (confined (world_after lines t) e comes);
-  unlost = ap (λ (w : World). w.lost) (world_more lines t e) ∙ sound.unlost ∙ run.unlost;
-  within = omega (arith, length_more t e);
-}
+texts_one : (d : Detail) (e : Entry) → texts d (e ∷ []) ≡ text d e
+texts_one detail.Brief e = append-nil (brief_text e)
+texts_one detail.Full e = append-nil (full_text e)
 
--- The texts of one more entry.
-pub texts_more : (t : List Entry) (e : Entry) → brief_texts (t ++ e ∷ []) ≡ brief_texts t ++ brief_text e
-texts_more [] e = append-nil (brief_text e)
-texts_more (x ∷ t) e = ap (λ (l : List ℕ). brief_text x ++ l) (texts_more t e) ∙ sym (append_assoc (brief_text x) (brief_texts t) (brief_text e))
+texts_none : (d : Detail) → texts d [] ≡ []
+texts_none detail.Brief = refl
+texts_none detail.Full = refl
+
+-- What a sink took.
+pub appends_nothing : (taken : Option (List ℕ)) → Appends taken taken []
+appends_nothing None = tt
+appends_nothing (Some xs) = sym (append-nil xs)
 
 appends_both : (start taken now : Option (List ℕ)) (xs ys : List ℕ) → Appends start taken xs → Appends taken now ys → Appends start now (xs ++ ys)
 appends_both None taken now xs ys a b = tt
@@ -55,82 +56,132 @@ appends_both (Some s) (Some t) (Some n) xs ys a b = b ∙ ap (λ (l : List ℕ).
 appends_both (Some s) (Some t) None xs ys a b = absurd b
 appends_both (Some s) None now xs ys a b = absurd a
 
-pub told_more : (start taken now : Option (List ℕ)) (t : List Entry) (e : Entry) → Appends start taken (brief_texts t) → Appends taken now (brief_text e) → Appends start now (brief_texts (t ++ e ∷ []))
-told_more start taken now t e a b = subst (λ (l : List ℕ). Appends start now l) (sym (texts_more t e)) (appends_both start taken now (brief_texts t) (brief_text e) a b)
+front_both : (start taken now : Option (List ℕ)) (xs ys : List ℕ) → Appends start taken xs → AppendsFront taken now ys → AppendsFront start now (xs ++ ys)
+front_both start taken now xs ys a (front, rest, is, b) =
+    (xs ++ front, rest, ap (λ (l : List ℕ). xs ++ l) is ∙ sym (append_assoc xs front rest), appends_both start taken now xs front a b)
 
-pub front_more : (start taken now : Option (List ℕ)) (t : List Entry) (e : Entry) → Appends start taken (brief_texts t) → AppendsFront taken now (brief_text e) → AppendsFront start now (brief_texts (t ++ e ∷ []))
-front_more start taken now t e a (front, rest, is, b) =
-    (brief_texts t ++ front, rest, texts_more t e ∙ ap (λ (l : List ℕ). brief_texts t ++ l) is ∙ sym (append_assoc (brief_texts t) front rest), appends_both start taken now (brief_texts t) front a b)
-
-pub whole_front : (start now : Option (List ℕ)) (text : List ℕ) → Appends start now text → AppendsFront start now text
+whole_front : (start now : Option (List ℕ)) (text : List ℕ) → Appends start now text → AppendsFront start now text
 whole_front start now text a = (text, [], sym (append-nil text), a)
 
--- An added entry leads on.
-pub goes_ok : {T : Type 0} (v : T) (lines : List Line) (old new : List Entry) (e : Entry) (taken now : Option (List ℕ)) (before after : ℕ) → IsRun lines (old ++ e ∷ []) → new ≡ old ++ e ∷ [] → Appends taken now (brief_text e) → before ≤ after → Goes lines old new taken now before after (Ok v)
-goes_ok v lines old new e taken now before after run is told later = record {
-  run = subst (IsRun lines) (sym is) run;
-  told = λ start a. subst (λ (t : List Entry). Appends start now (brief_texts t)) (sym is) (told_more start taken now old e a told);
-  later = later;
-  cause = λ x. absurd (cc);
-  full = λ x. absurd (cc);
-}
+-- a front of any text, where nothing was taken
+front_none : (taken : Option (List ℕ)) (text : List ℕ) → AppendsFront taken taken text
+front_none taken text = ([], text, refl, appends_nothing taken)
 
--- nothing was added
-pub goes_still : {T : Type 0} (v : T) (lines : List Line) (trace : List Entry) (taken : Option (List ℕ)) (faults : ℕ) → IsRun lines trace → Goes lines trace trace taken taken faults faults (Ok v)
-goes_still v lines trace taken faults run = record {
-  run = run;
-  told = λ start a. a;
-  later = omega arith;
-  cause = λ x. absurd (cc);
-  full = λ x. absurd (cc);
-}
+told_both : {T : Type 0} (r : Result T Stop) (start taken now : Option (List ℕ)) (xs ys : List ℕ) → Appends start taken xs → Told r taken now ys → Told r start now (xs ++ ys)
+told_both (Ok v) start taken now xs ys a b = appends_both start taken now xs ys a b
+told_both (Err Full) start taken now xs ys a b = appends_both start taken now xs ys a b
+told_both (Err NoMemory) start taken now xs ys a b = front_both start taken now xs ys a b
+told_both (Err OutFailed) start taken now xs ys a b = front_both start taken now xs ys a b
 
--- memory ran out before an entry was added
-pub goes_nowhere : {T : Type 0} (r : Result T Stop) (stop : Stop) (lines : List Line) (trace : List Entry) (taken : Option (List ℕ)) (faults : ℕ) → IsRun lines trace → r ≡ Err stop → stop ≡ NoMemory → Goes lines trace trace taken taken faults faults r
-goes_nowhere r stop lines trace taken faults run is why = subst (λ x. Goes lines trace trace taken taken faults faults x) (sym (is ∙ ap Err why)) (record {
-  run = run;
-  told = λ start a. whole_front start taken (brief_texts trace) a;
-  later = omega arith;
-  cause = λ x. absurd (cc);
-  full = λ x. absurd (cc);
-})
+-- One entry was added, and its text told.
+told_entry : (r : Result (Unit {0}) Stop) (d : Detail) (e : Entry) (taken now : Option (List ℕ)) (before after : ℕ) → TellsEntry d r e taken now before after → Told r taken now (texts d (e ∷ []))
+told_entry (Ok v) d e taken now before after t = subst (Appends taken now) (sym (texts_one d e)) t
+told_entry (Err Full) d e taken now before after t = absurd t
+told_entry (Err NoMemory) d e taken now before after t = subst (λ (n : Option (List ℕ)). AppendsFront taken n (texts d (e ∷ []))) (sym t.0) (front_none taken (texts d (e ∷ [])))
+told_entry (Err OutFailed) d e taken now before after t = subst (AppendsFront taken now) (sym (texts_one d e)) t.0
 
-pub goes_err : {T : Type 0} (stop : Stop) (lines : List Line) (old new : List Entry) (e : Entry) (taken now : Option (List ℕ)) (before after : ℕ) → IsRun lines old → IsRun lines (old ++ e ∷ []) → Added {T = Unit {0}} (Err stop) e old new taken now before after → before ≤ after → Goes {T = T} lines old new taken now before after (Err stop)
-goes_err Full lines old new e taken now before after was run added later = absurd added
-goes_err NoMemory lines old new e taken now before after was run added later = record {
-  run = subst (IsRun lines) (sym added.0) was;
-  told = λ start a. whole_front start now (brief_texts new) (subst (λ (t : List Entry). Appends start now (brief_texts t)) (sym added.0) (subst (λ (n : Option (List ℕ)). Appends start n (brief_texts old)) (sym added.1) a));
-  later = later;
-  cause = λ x. absurd (cc);
-  full = λ x. absurd (cc);
-}
-goes_err OutFailed lines old new e taken now before after was run added later = record {
-  run = subst (IsRun lines) (sym added.0) run;
-  told = λ start a. subst (λ (t : List Entry). AppendsFront start now (brief_texts t)) (sym added.0) (front_more start taken now old e a added.1);
-  later = later;
-  cause = λ x. added.2;
-  full = λ x. absurd (cc);
-}
+rose_entry : (r : Result (Unit {0}) Stop) (d : Detail) (e : Entry) (taken now : Option (List ℕ)) (before after : ℕ) → TellsEntry d r e taken now before after → r ≡ Err OutFailed → Rose before after
+rose_entry (Ok v) d e taken now before after t is = absurd (cc)
+rose_entry (Err Full) d e taken now before after t is = absurd t
+rose_entry (Err NoMemory) d e taken now before after t is = absurd (cc)
+rose_entry (Err OutFailed) d e taken now before after t is = t.1
 
-pub goes_added : (r : Result (Unit {0}) Stop) (lines : List Line) (old new : List Entry) (e : Entry) (taken now : Option (List ℕ)) (before after : ℕ) → IsRun lines old → IsRun lines (old ++ e ∷ []) → Added r e old new taken now before after → before ≤ after → Goes lines old new taken now before after r
-goes_added (Ok v) lines old new e taken now before after was run added later = goes_ok v lines old new e taken now before after run added.0 added.1 later
-goes_added (Err stop) lines old new e taken now before after was run added later = goes_err stop lines old new e taken now before after was run added later
+full_entry : (r : Result (Unit {0}) Stop) (d : Detail) (e : Entry) (taken now : Option (List ℕ)) (before after : ℕ) {X : Type 0} → TellsEntry d r e taken now before after → r ≡ Err Full → X
+full_entry (Ok v) d e taken now before after t is = absurd (cc)
+full_entry (Err Full) d e taken now before after t is = absurd t
+full_entry (Err NoMemory) d e taken now before after t is = absurd (cc)
+full_entry (Err OutFailed) d e taken now before after t is = absurd (cc)
+
+-- what holds at all answers holds at Ok
+pub on_any : {T X : Type 0} (r : Result T Stop) → X → OnOk r X
+on_any (Ok v) holds = holds
+on_any (Err stop) holds = tt
 
 -- what follows where a part of a run went well
 pub on_ok : {T X Y : Type 0} (r : Result T Stop) → OnOk r X → (X → Y) → OnOk r Y
 on_ok (Ok v) holds then = then holds
 on_ok (Err stop) holds then = tt
 
--- what holds where the entry was added
-pub on_added : {X : Type 0} (r : Result (Unit {0}) Stop) (old new : List Entry) (e : Entry) (taken now : Option (List ℕ)) (before after : ℕ) → Added r e old new taken now before after → (new ≡ old ++ e ∷ [] → X) → OnOk r X
-on_added (Ok v) old new e taken now before after added holds = holds added.0
-on_added (Err stop) old new e taken now before after added holds = tt
+pub goes_added : (r : Result (Unit {0}) Stop) (old new : RunnerView) (e : Entry) (taken now : Option (List ℕ)) (before after : ℕ) → new.lines ≡ old.lines → new.detail ≡ old.detail → new.core.trace ≡ old.core.trace ++ e ∷ [] → new.core.failed ≡ false
+    → TellsEntry old.detail r e taken now before after → before ≤ after → Goes old new taken now before after r
+goes_added r old new e taken now before after lines detail trace works tells later = record {
+  lines = lines;
+  more = e ∷ [];
+  gained = trace;
+  told = told_entry r old.detail e taken now before after tells;
+  detail = detail;
+  works = on_any r works;
+  later = later;
+  cause = rose_entry r old.detail e taken now before after tells;
+  full = full_entry r old.detail e taken now before after tells;
+}
+
+-- nothing was added, and nothing told
+told_none : {T : Type 0} (r : Result T Stop) (d : Detail) (taken : Option (List ℕ)) → Told r taken taken (texts d [])
+told_none (Ok v) d taken = subst (Appends taken taken) (sym (texts_none d)) (appends_nothing taken)
+told_none (Err Full) d taken = subst (Appends taken taken) (sym (texts_none d)) (appends_nothing taken)
+told_none (Err NoMemory) d taken = front_none taken (texts d [])
+told_none (Err OutFailed) d taken = front_none taken (texts d [])
+
+pub goes_still : {T : Type 0} (v : T) (r : RunnerView) (taken : Option (List ℕ)) (faults : ℕ) → r.core.failed ≡ false → Goes r r taken taken faults faults (Ok v)
+goes_still v r taken faults works = record {
+  lines = refl;
+  more = [];
+  gained = sym (append-nil r.core.trace);
+  told = told_none (Ok v) r.detail taken;
+  detail = refl;
+  works = works;
+  later = omega arith;
+  cause = λ x. absurd (cc);
+  full = λ x. absurd (cc);
+}
+
+-- a core has refused
+pub goes_refused : {T : Type 0} (why : CoreFault) (old new : RunnerView) (taken : Option (List ℕ)) (faults : ℕ) → new.lines ≡ old.lines → new.detail ≡ old.detail → new.core.trace ≡ old.core.trace → (why ≡ fault.Full → IsFullAt old.lines old.core.trace)
+    → Goes {T = T} old new taken taken faults faults (Err (stop_for why))
+goes_refused {T} why old new taken faults lines detail trace full = record {
+  lines = lines;
+  more = [];
+  gained = trace ∙ sym (append-nil old.core.trace);
+  told = told_none {T = T} (Err (stop_for why)) old.detail taken;
+  detail = detail;
+  works = tt;
+  later = omega arith;
+  cause = λ x. not_out why (Err (stop_for why)) refl x;
+  full = λ x. is_full (full (was_full why (Err (stop_for why)) refl x));
+}
+  where
+    not_out : (f : CoreFault) (r : Result T Stop) {X : Type 0} → r ≡ Err (stop_for f) → r ≡ Err OutFailed → X
+    not_out fault.NoThread r is x = absurd (cc)
+    not_out fault.Idle r is x = absurd (cc)
+    not_out fault.Running r is x = absurd (cc)
+    not_out fault.Full r is x = absurd (cc)
+    not_out fault.NoMemory r is x = absurd (cc)
+
+    was_full : (f : CoreFault) (r : Result T Stop) → r ≡ Err (stop_for f) → r ≡ Err Full → f ≡ fault.Full
+    was_full fault.NoThread r is x = absurd (cc)
+    was_full fault.Idle r is x = absurd (cc)
+    was_full fault.Running r is x = absurd (cc)
+    was_full fault.Full r is x = refl
+    was_full fault.NoMemory r is x = absurd (cc)
+
+    is_full : IsFullAt old.lines old.core.trace → IsFullAt new.lines new.core.trace
+    is_full k = subst (λ (l : List Line). IsFullAt l new.core.trace) (sym lines) (subst (λ (t : List Entry). IsFullAt old.lines t) (sym trace) k)
+
+-- memory ran out before the core was asked
+pub goes_nowhere : {T : Type 0} (r : RunnerView) (taken : Option (List ℕ)) (faults : ℕ) → Goes {T = T} r r taken taken faults faults (Err NoMemory)
+goes_nowhere {T} r taken faults = goes_refused {T = T} fault.NoMemory r r taken faults refl refl refl (λ x. absurd (cc))
 
 -- two parts of a run, one behind the other
-pub goes_then : {T : Type 0} (r : Result T Stop) (lines : List Line) (old middle new : List Entry) (taken mid now : Option (List ℕ)) (before between after : ℕ) → Goes {T = Unit {0}} lines old middle taken mid before between (Ok tt) → Goes lines middle new mid now between after r → Goes lines old new taken now before after r
-goes_then r lines old middle new taken mid now before between after one two = record {
-  run = two.run;
-  told = λ start a. two.told start (one.told start a);
+pub goes_then : {T : Type 0} (r : Result T Stop) (old middle new : RunnerView) (taken mid now : Option (List ℕ)) (before between after : ℕ) → Goes {T = Unit {0}} old middle taken mid before between (Ok tt) → Goes middle new mid now between after r → Goes old new taken now before after r
+goes_then {T} r old middle new taken mid now before between after one two = record {
+  lines = two.lines ∙ one.lines;
+  more = one.more ++ two.more;
+  gained = two.gained ∙ ap (λ (l : List Entry). l ++ two.more) one.gained ∙ append_assoc old.core.trace one.more two.more;
+  told = subst (Told r taken now) (sym (texts_both old.detail one.more two.more))
+      (told_both r taken mid now (texts old.detail one.more) (texts old.detail two.more) one.told (subst (λ (d : Detail). Told r mid now (texts d two.more)) one.detail two.told));
+  detail = two.detail ∙ one.detail;
+  works = two.works;
   later = omega (arith, one.later, two.later);
   cause = λ x. rose before between after one.later (two.cause x);
   full = two.full;
@@ -139,45 +190,74 @@ goes_then r lines old middle new taken mid now before between after one two = re
     rose : (b m a : ℕ) → b ≤ m → Rose m a → Rose b a
     rose b m a low r = omega (arith, low, r)
 
--- The machine is that of the trace with one more entry.
-pub tied_more : (lines : List Line) (m next : MachineView) (old new : List Entry) (e : Entry) → IsTied lines m old → IsRun lines (old ++ e ∷ []) → new ≡ old ++ e ∷ [] → next.bus ≡ (stepped (world_after lines old) e).machine.bus → next.failed ≡ false → pages_of next.bus.words ≡ pages_of m.bus.words → HasRegisters next.bus → IsTimeless (stepped (world_after lines old) e).machine → IsTied lines next new
-tied_more lines m next old new e tied run is same works size registers timeless = record {
-  run = subst (IsRun lines) (sym is) run;
-  bus = same ∙ ap (λ (w : World). w.machine.bus) (sym (ap (world_after lines) is ∙ world_more lines old e));
-  works = works;
-  least = tied.least;
-  most = tied.most;
-  size = size ∙ tied.size;
-  registers = registers;
-  timeless = subst (λ (w : World). IsTimeless w.machine) (sym (ap (world_after lines) is ∙ world_more lines old e)) timeless;
-}
+-- A core was asked for an entry: it has added one, which was told, or it has refused.
+pub goes_told : (r : Result (Unit {0}) Stop) (old new : RunnerView) (e : Entry) (taken now : Option (List ℕ)) (before after : ℕ) → new.lines ≡ old.lines → new.detail ≡ old.detail → Adds old.core new.core e
+    → ((xs : List Entry) (x : Entry) → new.core.trace ≡ xs ++ x ∷ [] → TellsEntry old.detail r x taken now before after) → before ≤ after → Goes old new taken now before after r
+goes_told r old new e taken now before after lines detail adds tells later =
+    goes_added r old new e taken now before after lines detail adds.trace adds.works (tells old.core.trace e adds.trace) later
 
-pub tied_added : (r : Result (Unit {0}) Stop) (lines : List Line) (m next : MachineView) (old new : List Entry) (e : Entry) (taken now : Option (List ℕ)) (before after : ℕ) → IsTied lines m old → IsRun lines (old ++ e ∷ []) → Added r e old new taken now before after → next.bus ≡ (stepped (world_after lines old) e).machine.bus → next.failed ≡ false → pages_of next.bus.words ≡ pages_of m.bus.words → HasRegisters next.bus → IsTimeless (stepped (world_after lines old) e).machine → OnOk r (IsTied lines next new)
-tied_added (Ok v) lines m next old new e taken now before after tied run added same works size registers timeless = tied_more lines m next old new e tied run added.0 same works size registers timeless
-tied_added (Err stop) lines m next old new e taken now before after tied run added same works size registers timeless = tt
+is_full_at : (r : RunnerView) (e : Entry) → MayFollow (place_of r) e → TRACE_LIMIT ≤ length r.core.trace → IsFullAt r.lines r.core.trace
+is_full_at r e may long = record { full = long; due = not_at_end (place_of r) e may }
 
--- where an entry may follow, the end isn't reached
-pub not_at_end : (p : Place) (e : Entry) → MayFollow p e → IsAtEnd p → ⊥
-not_at_end p e may end = subst (λ (x : List Line). IsNext Resting x p.dir p.running e) end.lines (subst (λ (x : Turns). IsNext x p.left p.dir p.running e) end.turns may)
+module _ (old new : RunnerView) (taken : Option (List ℕ)) (faults : ℕ) (r : Result (Unit {0}) Stop) (why : CoreFault) (is : r ≡ Err (stop_for why)) (lines : new.lines ≡ old.lines) (detail : new.detail ≡ old.detail) where
+  refused : new.core.trace ≡ old.core.trace → (why ≡ fault.Full → IsFullAt old.lines old.core.trace) → Goes old new taken taken faults faults r
+  refused trace full = subst (λ (x : Result (Unit {0}) Stop). Goes old new taken taken faults faults x) (sym is) (goes_refused why old new taken faults lines detail trace full)
 
-pub full_at : (lines : List Line) (t : List Entry) (e : Entry) → MayFollow (place_after lines t) e → 4194304 ≤ length t → IsFullAt lines t
-full_at lines t e may long = record { full = long; due = not_at_end (place_after lines t) e may }
+  pub happens_not : (ev : FaultEvent) → ((e : Entry) → IsOfEvent ev e → MayFollow (place_of old) e) → HappensAs old.core new.core ev (Err why) → Goes old new taken taken faults faults r
+  happens_not ev may h = refused (trace why h) (full why h)
+    where
+      trace : (f : CoreFault) → HappensAs old.core new.core ev (Err f) → new.core.trace ≡ old.core.trace
+      trace fault.NoThread k = ap (λ (c : CoreView). c.trace) k.0.1
+      trace fault.Full k = ap (λ (c : CoreView). c.trace) k.0.1
+      trace fault.NoMemory k = k.trace
+      trace fault.Idle k = absurd k
+      trace fault.Running k = absurd k
 
--- A run begins tied.
-pub length_new_image : (pages : ℕ) → length (new_image pages) ≡ 512 * pages
-length_new_image pages = length-map-range_with_len (new_word pages) 0 (512 * pages)
+      full : (f : CoreFault) → HappensAs old.core new.core ev (Err f) → f ≡ fault.Full → IsFullAt old.lines old.core.trace
+      full fault.Full k same = let (e, of) = event_entry ev in is_full_at old e (may e of) k.2
+      full fault.NoThread k same = absurd (cc)
+      full fault.NoMemory k same = absurd (cc)
+      full fault.Idle k same = absurd (cc)
+      full fault.Running k same = absurd (cc)
 
-pub tied_first : (lines : List Line) (m : MachineView) (trace : List Entry) (pages : ℕ) → pages ≡ pages_made lines → 64 ≤ pages → pages ≤ 16384 → m.bus ≡ bus_over (new_image pages) → m.failed ≡ false → trace ≡ [] → IsTied lines m trace
-tied_first lines m trace pages made least most is works none = record {
-  run = subst (IsRun lines) (sym none) (record { follows = tt; allowed = tt; right = tt; windows = tt; confined = tt; unlost = refl; within = omega arith });
-  bus = is ∙ ap (λ n. bus_over (new_image n)) made ∙ ap (λ t. (world_after lines t).machine.bus) (sym none);
-  works = works;
-  least = subst (λ n. 64 ≤ n) made least;
-  most = subst (λ n. n ≤ 16384) made most;
-  size = ap (λ (b : Bus). pages_of b.words) is ∙ ap (λ n. n / 512) (length_all_durable (new_image pages) ∙ length_new_image pages) ∙ whole pages ∙ made;
-  registers = subst HasRegisters (sym is) (registers_first (new_image pages));
-  timeless = subst (λ (t : List Entry). IsTimeless (world_after lines t).machine) (sym none) (record { clock = refl; latest = refl; ended = refl });
-}
-  where
-    whole : (n : ℕ) → 512 * n / 512 ≡ n
-    whole n = omega arith
+  pub gives_not : (thread : ℕ) (command : Command) → MayFollow (place_of old) (entry.Call thread command) → GivesAs old.core new.core thread command (Err why) → Goes old new taken taken faults faults r
+  gives_not thread command may h = refused (trace why h) (full why h)
+    where
+      trace : (f : CoreFault) → GivesAs old.core new.core thread command (Err f) → new.core.trace ≡ old.core.trace
+      trace fault.NoThread k = ap (λ (c : CoreView). c.trace) k.0.1
+      trace fault.Running k = ap (λ (c : CoreView). c.trace) k.0.1
+      trace fault.Full k = ap (λ (c : CoreView). c.trace) k.0.1
+      trace fault.NoMemory k = k.trace
+      trace fault.Idle k = absurd k
+
+      full : (f : CoreFault) → GivesAs old.core new.core thread command (Err f) → f ≡ fault.Full → IsFullAt old.lines old.core.trace
+      full fault.Full k same = is_full_at old (entry.Call thread command) may k.3
+      full fault.NoThread k same = absurd (cc)
+      full fault.NoMemory k same = absurd (cc)
+      full fault.Idle k same = absurd (cc)
+      full fault.Running k same = absurd (cc)
+
+  pub turns_not : (thread : ℕ) → IsTurning thread (place_of old).turns → TurnsAs old.core new.core thread 0 (Err why) → Goes old new taken taken faults faults r
+  turns_not thread turning h = refused (trace why h) (full why h)
+    where
+      trace : (f : CoreFault) → TurnsAs old.core new.core thread 0 (Err f) → new.core.trace ≡ old.core.trace
+      trace fault.NoThread k = ap (λ (c : CoreView). c.trace) k.0.1
+      trace fault.Idle k = ap (λ (c : CoreView). c.trace) k.0.1
+      trace fault.Full k = ap (λ (c : CoreView). c.trace) k.0.1
+      trace fault.NoMemory k = k.trace
+      trace fault.Running k = absurd k
+
+      full : (f : CoreFault) → TurnsAs old.core new.core thread 0 (Err f) → f ≡ fault.Full → IsFullAt old.lines old.core.trace
+      full fault.Full k same = record { full = k.3; due = λ end. subst (IsTurning thread) end.turns turning }
+      full fault.NoThread k same = absurd (cc)
+      full fault.NoMemory k same = absurd (cc)
+      full fault.Idle k same = absurd (cc)
+      full fault.Running k same = absurd (cc)
+
+-- a part of a run that stopped, behind one that went well
+pub goes_on : (r : Result (Unit {0}) Stop) (why : Stop) (old middle new : RunnerView) (taken mid now : Option (List ℕ)) (before between after : ℕ) → r ≡ Err why → Goes {T = Unit {0}} old middle taken mid before between (Ok tt) → Goes {T = Unit {0}} middle new mid now between after (Err why) → Goes old new taken now before after r
+goes_on r why old middle new taken mid now before between after is one two =
+    goes_then r old middle new taken mid now before between after one (subst (λ (x : Result (Unit {0}) Stop). Goes middle new mid now between after x) (sym is) two)
+
+pub goes_nowhere_at : (r : Result (Unit {0}) Stop) (why : Stop) (runner : RunnerView) (taken : Option (List ℕ)) (faults : ℕ) → r ≡ Err why → why ≡ NoMemory → Goes runner runner taken taken faults faults r
+goes_nowhere_at r why runner taken faults is same = subst (λ (x : Result (Unit {0}) Stop). Goes runner runner taken taken faults faults x) (sym (is ∙ ap Err same)) (goes_nowhere runner taken faults)

@@ -5,8 +5,10 @@ use Rattle.tr_script.specs.declared.status.Status.{Status}
 use Rattle.tr_script.specs.declared.status.Status.TheVariants.{Done, Full, NoMemory}
 use Rattle.tr_script.specs.declared.script.Line.{Line}
 use Rattle.tr_top.specs.Along.{IsAtEnd}
-use Rattle.tr_top.specs.Run.{trace_limit, place_after}
+use Rattle.tr_core.specs.declared.limits.TheConstants.{TRACE_LIMIT}
+use Rattle.tr_top.specs.Run.{place_after}
 use Rattle.tr_script.specs.Grammar.{IsScript}
+use Rattle.tr_top.specs.declared.teller.Detail.{Detail}
 use Rattle.tr_top.specs.Top.{Outside, IsAnswered, IsForm, ReadsScript}
 
 -- no fault was counted: each count is what it was, and wasn't at the counter's last value
@@ -20,11 +22,11 @@ abbrev pub EndsWell : Outside → Outside → Status → List Entry → Type 0
 EndsWell before after Done trace = Unit {0}
 EndsWell before after NoMemory trace = Unit {0}
 EndsWell before after Full trace =
-    (lines : List Line) × ReadsScript before.script_left after.script_left lines × (trace_limit ≤ length trace) × (IsAtEnd (place_after lines trace) → ⊥)
+    (lines : List Line) × ReadsScript before.script_left after.script_left lines × (TRACE_LIMIT ≤ length trace) × (IsAtEnd (place_after lines trace) → ⊥)
 EndsWell before after status trace = ⊥
 
 -- Where the words are the form, the source's bytes are known and are a script, and no fault is counted, what the top call
 -- says of its end is that it ended well.
 abbrev pub Completes : Type 0
-Completes = (words : List (List ℕ)) (before after : Outside) (status : Status) (trace : List Entry) (text : List ℕ) (lines : List Line)
-    → IsAnswered words before after status trace → IsForm words → before.script_left ≡ Some text → IsScript text lines → NoFault before after → EndsWell before after status trace
+Completes = (words : List (List ℕ)) (detail : Detail) (before after : Outside) (status : Status) (trace : List Entry) (text : List ℕ) (lines : List Line)
+    → IsAnswered words before after status trace → IsForm words detail → before.script_left ≡ Some text → IsScript text lines → NoFault before after → EndsWell before after status trace

@@ -3,11 +3,18 @@ use Rattle.std.specs.Prelude.{◌≡◌, ℕ, List, Option}
 use Rattle.std.specs.Io.KnownBytes.{Appends}
 use Rattle.tr_outside.specs.Causes.{Rose}
 use Rattle.tr_outside.specs.Whole.{AppendsFront}
-use Rattle.tr_top.specs.declared.log.Stop.{Stop}
-use Rattle.tr_top.specs.declared.log.Stop.TheVariants as stop
+use Rattle.tr_core.specs.declared.fault.CoreFault.{CoreFault}
+use Rattle.tr_core.specs.declared.fault.CoreFault.TheVariants as fault
+use Rattle.tr_top.specs.declared.stop.Stop.{Stop}
+use Rattle.tr_top.specs.declared.stop.Stop.TheVariants as stop
 use Rattle.tr_script.specs.declared.status.Status.{Status}
 use Rattle.tr_script.specs.declared.status.Status.TheVariants.{Done, BadScript, ReadFault, WriteFault, NoMemory, Full}
 use Rattle.tr_top.specs.Top.{ReadsNoScript}
+
+-- why a run stops where its core refuses
+abbrev pub stop_for : CoreFault → Stop
+stop_for fault.Full = stop.Full
+stop_for refused = stop.NoMemory
 
 abbrev pub stop_status : Stop → Status
 stop_status stop.Full = Full

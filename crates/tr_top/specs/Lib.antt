@@ -2,7 +2,9 @@
 pub mod Along
 -- what a run of a script is
 pub mod Run
--- what the parts of a run keep
+-- what a run prints
+pub mod Telling
+-- how a run goes on, part by part
 pub mod Running
 -- what the top call has done
 pub mod Top

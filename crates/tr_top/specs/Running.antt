@@ -1,183 +1,133 @@
--- What the parts of a run keep.
-use Rattle.std.specs.Prelude.{◌≡◌, ◌≢◌, ℕ, ◌<◌, ◌≤◌, List, [], ◌∷◌, ◌++◌, length, map, Option, Some, None, unwrap_or, true, false, Ok, Err}
+-- How a run goes on, part by part.
+use Rattle.std.specs.Prelude.{◌≡◌, ℕ, ◌<◌, ◌≤◌, List, [], ◌∷◌, ◌++◌, length, map, Option, Some, is_some, true, false, if◌then◌else◌, ◌==◌, OnOk, Ok, Err}
 use Rattle.std.specs.declared.result.Result.{Result}
 use Rattle.std.specs.Io.KnownBytes.{Appends}
-use Rattle.tr_model.specs.Denotes.{dir_of}
-use Rattle.tr_types.specs.Fold.{state_after}
-use Rattle.kern_model.specs.KernelView.{pages_of}
-use Rattle.zo_layout.specs.Layout.{page_at, root_page}
-use Rattle.zo_model.specs.Commands.{IsCommand}
-use Rattle.bus_model.specs.Machine.{Machine, ThreadWasStarted, HasRegisters, bus_over, pkru_of}
-use Rattle.kern_model.specs.Rights.{closed_pkru}
-use Rattle.tr_types.specs.Traces.{answer_at}
-use Rattle.tr_model.specs.Windows.{LeavesWindows}
-use Rattle.tr_model.specs.World.{World, Idle, stepped}
-use Rattle.tr_types.specs.declared.action.Answer.{Answer}
-use Rattle.tr_types.specs.declared.action.Answer.TheVariants.{Done}
-use Rattle.tr_types.specs.declared.command.Command.{Command}
 use Rattle.tr_types.specs.declared.entry.Entry.{Entry}
-use Rattle.tr_types.specs.declared.entry.Entry.TheVariants as entry
-use Rattle.bus_machine.specs.View.{MachineView}
 use Rattle.tr_outside.specs.Causes.{Rose}
 use Rattle.tr_outside.specs.Whole.{AppendsFront}
-use Rattle.tr_dispatch.specs.Sessions.{IsGrounded, SessionKnows}
-use Rattle.tr_script.specs.Grammar.{Declared, declared, nothing_declared, MayStand}
-use Rattle.tr_text.specs.Text.{brief_text, brief_texts}
+use Rattle.tr_script.specs.Grammar.{Declared, declared, MayStand}
 use Rattle.tr_script.specs.declared.script.Line.{Line}
 use Rattle.tr_script.specs.declared.script.Line.TheVariants.{Mkfs}
-use Rattle.tr_top.specs.Along.{Place, Running, Turns, Resting, IsAtEnd, MayFollow, before, after_action}
-use Rattle.tr_top.specs.Run.{IsRun, IsRight, trace_limit, pages_made, opening, world_after, place_after}
-use Rattle.tr_top.specs.declared.log.Stop.{Stop}
-use Rattle.tr_top.specs.declared.log.Stop.TheVariants.{Full, NoMemory, OutFailed}
-use Rattle.tr_top.specs.declared.runner.Turned.{Turned}
-use Rattle.tr_top.specs.declared.runner.Turned.TheVariants.{Acted, Ended}
-use Rattle.tr_top.specs.declared.runner.RunningCall.{RunningCall}
+use Rattle.tr_types.specs.declared.limits.TheConstants.{PROCESSES, THREADS}
+use Rattle.zo_model.specs.Alone.{root_cred}
+use Rattle.tr_core.specs.Core.{CoreView, HasProcess, HasThread, IsDueAt, due_at, world_at}
+use Rattle.tr_core.specs.declared.event.FaultEvent.{FaultEvent}
+use Rattle.tr_core.specs.declared.event.FaultEvent.TheVariants as event
+use Rattle.tr_core.specs.declared.limits.TheConstants.{TRACE_LIMIT}
+use Rattle.tr_top.specs.Along.{Place, Turns, Resting, ToTheEnd, ToAnOpening, IsAtEnd, Follows, before}
+use Rattle.tr_top.specs.Run.{pages_made, opening, place_after}
+use Rattle.tr_top.specs.Telling.{text, texts}
+use Rattle.tr_top.specs.declared.teller.Detail.{Detail}
+use Rattle.tr_top.specs.declared.stop.Stop.{Stop}
+use Rattle.tr_top.specs.declared.stop.Stop.TheVariants.{Full, NoMemory, OutFailed}
 
--- one entry was added to the trace, and its text handed to a sink
-abbrev pub Added : {T : Type 0} → Result T Stop → Entry → List Entry → List Entry → Option (List ℕ) → Option (List ℕ) → ℕ → ℕ → Type 0
-Added (Ok _) e old new taken now before after = (new ≡ old ++ e ∷ []) × Appends taken now (brief_text e)
-Added (Err Full) e old new taken now before after = ⊥
-Added (Err NoMemory) e old new taken now before after = (new ≡ old) × (now ≡ taken)
-Added (Err OutFailed) e old new taken now before after = (new ≡ old ++ e ∷ []) × AppendsFront taken now (brief_text e) × Rose before after
+-- a runner as its callers see it: the script's lines, in which detail it tells, and what the run has come to
+pub record RunnerView : Type 0 where
+  pub lines : List Line
+  pub detail : Detail
+  pub core : CoreView
 
--- The sink, which had taken the text of the trace so far since some moment, has then taken the text of the new one,
--- or a front of it.
+-- The trace follows the lines, over the image that they make. The threads with a call are those of the place in the script.
+pub record IsAlong (lines : List Line) (core : CoreView) : Type 0 where
+  pub opening_is : core.opening ≡ opening lines
+  pub follows : Follows lines core.trace
+  pub calls : core.failed ≡ false → (thread : ℕ) → (place_after lines core.trace).calls thread ≡ is_some (due_at core thread)
+  pub due : IsDueAt core 0
+
+-- A sink that had taken some bytes has then taken this text, or a front of it where the run stopped within.
 abbrev pub Told : {T : Type 0} → Result T Stop → Option (List ℕ) → Option (List ℕ) → List ℕ → Type 0
-Told (Ok _) start now text = Appends start now text
-Told (Err Full) start now text = Appends start now text
-Told (Err NoMemory) start now text = AppendsFront start now text
-Told (Err OutFailed) start now text = AppendsFront start now text
+Told (Ok _) taken now text = Appends taken now text
+Told (Err Full) taken now text = Appends taken now text
+Told (Err NoMemory) taken now text = AppendsFront taken now text
+Told (Err OutFailed) taken now text = AppendsFront taken now text
+
+-- a sink takes the text of one entry
+abbrev pub TellsEntry : Detail → Result (Unit {0}) Stop → Entry → Option (List ℕ) → Option (List ℕ) → ℕ → ℕ → Type 0
+TellsEntry detail (Ok _) e taken now before after = Appends taken now (text detail e)
+TellsEntry detail (Err Full) e taken now before after = ⊥
+TellsEntry detail (Err NoMemory) e taken now before after = (now ≡ taken) × (after ≡ before)
+TellsEntry detail (Err OutFailed) e taken now before after = AppendsFront taken now (text detail e) × Rose before after
 
 -- the trace is full, and a further entry is due
 pub record IsFullAt (lines : List Line) (trace : List Entry) : Type 0 where
-  pub full : trace_limit ≤ length trace
+  pub full : TRACE_LIMIT ≤ length trace
   pub due : IsAtEnd (place_after lines trace) → ⊥
 
--- a part of a run leads from a trace to a trace, and a sink from what it had taken to what it has taken
-pub record Goes {T : Type 0} (lines : List Line) (old new : List Entry) (taken now : Option (List ℕ)) (before after : ℕ) (result : Result T Stop) : Type 0 where
-  pub run : IsRun lines new
-  pub told : (start : Option (List ℕ)) → Appends start taken (brief_texts old) → Told result start now (brief_texts new)
+-- a part of a run, with what it has told a sink
+pub record Goes {T : Type 0} (old new : RunnerView) (taken now : Option (List ℕ)) (before after : ℕ) (result : Result T Stop) : Type 0 where
+  pub lines : new.lines ≡ old.lines
+  pub more : List Entry
+  pub gained : new.core.trace ≡ old.core.trace ++ more
+  pub told : Told result taken now (texts old.detail more)
+  pub detail : new.detail ≡ old.detail
+  pub works : OnOk result (new.core.failed ≡ false)
   pub later : before ≤ after
   pub cause : result ≡ Err OutFailed → Rose before after
-  pub full : result ≡ Err Full → IsFullAt lines new
+  pub full : result ≡ Err Full → IsFullAt new.lines new.core.trace
 
--- the entry is right where it comes, and leaves at most one window
-pub record IsSound (w : World) (e : Entry) : Type 0 where
-  pub right : IsRight w e
-  pub windows : LeavesWindows w e
-  pub unlost : (stepped w e).lost ≡ w.lost
+-- Where a run stands between two lines.
 
--- no tick has passed, and no process has ended, since no line asks for either
-pub record IsTimeless (m : Machine) : Type 0 where
-  pub clock : m.clock ≡ 0
-  pub latest : m.latest ≡ 0
-  pub ended : m.ended ≡ []
+abbrev pub place_of : RunnerView → Place
+place_of r = place_after r.lines r.core.trace
 
--- the machine is that of the trace so far, and works
-pub record IsTied (lines : List Line) (m : MachineView) (trace : List Entry) : Type 0 where
-  pub run : IsRun lines trace
-  pub bus : m.bus ≡ (world_after lines trace).machine.bus
-  pub works : m.failed ≡ false
-  pub least : 64 ≤ pages_made lines
-  pub most : pages_made lines ≤ 16384
-  pub size : pages_of m.bus.words ≡ pages_made lines
-  pub registers : HasRegisters m.bus
-  pub timeless : IsTimeless (world_after lines trace).machine
+-- what the machine has started is what the lines so far have declared; a call is under way where a `call` line had no
+-- `finish` line
+pub record IsLike (r : RunnerView) (d : Declared) : Type 0 where
+  pub processes : map (λ p. p.0) (world_at r.core).base.machine.bus.processes ≡ d.processes
+  pub threads : (world_at r.core).base.machine.bus.threads ≡ d.threads
+  pub fresh : d.begun ≡ false → r.core.trace ≡ []
+  pub calling : (thread : ℕ) → (place_of r).calls thread ≡ true → d.calling ≡ Some thread
 
--- a thread that has no call, and whose window is closed
-pub record IsAside (w : World) (thread : ℕ) : Type 0 where
-  pub idle : w.phases thread ≡ Idle
-  pub closed : pkru_of w.machine.bus thread ≡ closed_pkru
+-- no thread has a call
+abbrev pub NobodyCalls : RunnerView → Type 0
+NobodyCalls r = (thread : ℕ) → (place_of r).calls thread ≡ false
 
--- no call runs: the words are the ground of the next one, and nobody holds the coffer
-pub record IsQuiet (w : World) (p : Place) : Type 0 where
-  pub ground : IsGrounded w.machine.bus.words w.tree
-  pub unheld : w.machine.bus.holders ≡ []
-  pub aside : (t : ℕ) → IsAside w t
-  pub running : p.running ≡ None
+-- what a core asks of an event, said of the script's place
+abbrev pub CanHappen : RunnerView → FaultEvent → Type 0
+CanHappen r (event.Mkfs pages) = (r.core.trace ≡ []) × (pages ≡ pages_made r.lines)
+CanHappen r (event.Process process cred) = (process < PROCESSES) × (HasProcess r.core process → ⊥) × (cred ≡ root_cred)
+CanHappen r (event.Thread thread process) = (thread < THREADS) × (HasThread r.core thread → ⊥)
+CanHappen r (event.Stray thread addr word) = (place_of r).calls thread ≡ false
 
--- what a call waits for: the answer of its last action; a call that begins is told that all is done
-abbrev pub answer_to : List Entry → ℕ → Answer
-answer_to trace asked = unwrap_or (answer_at trace asked) Done
+-- the lines that are left, of which the first is next
+pub record IsBefore (r : RunnerView) (below : List Line) : Type 0 where
+  pub place : place_of r ≡ before below (place_of r).calls
 
--- a call is between two of its turns: it knows what its stage asks for with the answer that it gets next, and all other
--- threads stand aside
-pub record IsAtTurn (w : World) (p : Place) (trace : List Entry) (call : RunningCall) : Type 0 where
-  pub asked : call.asked < length trace
-  pub knows : SessionKnows call.session (answer_to trace call.asked) w
-  pub others : (t : ℕ) → t ≢ call.session.thread → IsAside w t
-  pub running : p.running ≡ Some (record { thread = call.session.thread; command = call.session.command })
-  pub dir : p.dir ≡ dir_of w.machine.bus.words
+-- the line is the next of the script, and may stand there
+pub record IsNextLine (r : RunnerView) (line : Line) (below : List Line) (d : Declared) : Type 0 where
+  pub place : IsBefore r (line ∷ below)
+  pub like : IsLike r d
+  pub stands : MayStand d line
+  pub first : (pages : ℕ) → line ≡ Mkfs pages → pages ≡ pages_made r.lines
 
-abbrev pub StandsAs : World → Place → List Entry → Option RunningCall → Type 0
-StandsAs w p trace None = IsQuiet w p
-StandsAs w p trace (Some call) = IsAtTurn w p trace call
+-- a line that may follow
+abbrev pub CanFollow : RunnerView → Line → Type 0
+CanFollow r line = (below : List Line) × (d : Declared) × IsNextLine r line below d
 
--- how a call stands after a trace, if one runs
-abbrev pub Stands : List Line → List Entry → Option RunningCall → Type 0
-Stands lines trace call = StandsAs (world_after lines trace) (place_after lines trace) trace call
+-- these are turns of the thread
+abbrev pub IsTurning : ℕ → Turns → Type 0
+IsTurning thread Resting = ⊥
+IsTurning thread (ToTheEnd t) = t ≡ thread
+IsTurning thread (ToAnOpening t) = t ≡ thread
 
--- after its turn a call is between two turns, or has left the ground for the next one
-abbrev pub StandsTurned : Turned → List Line → List Entry → RunningCall → Type 0
-StandsTurned (Acted mark) lines trace call = Stands lines trace (Some call)
-StandsTurned Ended lines trace call = Stands lines trace None
+-- who was started is as before
+pub record WhoStays (old new : RunnerView) : Type 0 where
+  pub processes : (world_at new.core).base.machine.bus.processes ≡ (world_at old.core).base.machine.bus.processes
+  pub threads : (world_at new.core).base.machine.bus.threads ≡ (world_at old.core).base.machine.bus.threads
 
--- where the script stands after a turn
-abbrev pub TurnsTo : Turned → Place → Place → Type 0
-TurnsTo (Acted mark) old new = new ≡ after_action old.turns mark old
-TurnsTo Ended old new = new ≡ before old.left None old.dir
+-- the thread's call has ended, if it had one
+pub record IsEnded (old new : RunnerView) (thread : ℕ) (below : List Line) : Type 0 where
+  pub place : IsBefore new below
+  pub calls : (t : ℕ) → (place_of new).calls t ≡ (if t == thread then false else (place_of old).calls t)
+  pub who : WhoStays old new
 
-abbrev pub AreDue : Turns → Type 0
-AreDue Resting = ⊥
-AreDue turns = Unit {0}
+-- it has opened a window or has ended
+pub record IsOpened (old new : RunnerView) (thread : ℕ) (below : List Line) : Type 0 where
+  pub place : IsBefore new below
+  pub calls : (t : ℕ) → (place_of new).calls t ≡ true → (place_of old).calls t ≡ true
+  pub who : WhoStays old new
 
--- who lives on the machine is as before, and an entry has come
-pub record WhoStays (old new : Machine) : Type 0 where
-  pub processes : new.bus.processes ≡ old.bus.processes
-  pub threads : new.bus.threads ≡ old.bus.threads
-  pub begun : new.begun ≡ true
-
--- The machine has started what the lines so far have declared, and is untouched where there are none. A call that runs
--- is that of the thread whose `call` line has had no `finish` line.
-pub record IsLike (lines : List Line) (m : Machine) (p : Place) (d : Declared) : Type 0 where
-  pub processes : map (λ p. p.0) m.bus.processes ≡ d.processes
-  pub threads : m.bus.threads ≡ d.threads
-  pub begun : m.begun ≡ d.begun
-  pub untouched : m.begun ≡ false → m.bus ≡ bus_over (opening lines)
-  pub dir : m.begun ≡ true → p.dir ≡ page_at (root_page (pages_made lines))
-  pub calling : (r : Running) → p.running ≡ Some r → d.calling ≡ Some r.thread
-
--- what lines declare
-abbrev pub declared_by : List Line → Declared
-declared_by lines = state_after declared nothing_declared lines
-
--- the line is the next of the script
-pub record IsBefore (lines : List Line) (trace : List Entry) (line : Line) : Type 0 where
-  pub below : List Line
-  pub place : place_after lines trace ≡ before (line ∷ below) (place_after lines trace).running (place_after lines trace).dir
-
--- and it may stand there
-pub record IsNextLine (lines : List Line) (trace : List Entry) (line : Line) : Type 0 where
-  pub above : List Line
-  pub next : IsBefore lines trace line
-  pub like : IsLike lines (world_after lines trace).machine (place_after lines trace) (declared_by above)
-  pub stands : MayStand (declared_by above) line
-  pub first : (declared_by above).begun ≡ false → (pages : ℕ) → line ≡ Mkfs pages → pages ≡ pages_made lines
-
--- a thread that was started is given a command, and no call runs
-pub record IsCallGiven (lines : List Line) (trace : List Entry) (thread : ℕ) (command : Command) : Type 0 where
-  pub valid : IsCommand command
-  pub lives : ThreadWasStarted (world_after lines trace).machine.bus thread
-  pub follows : MayFollow (place_after lines trace) (entry.Call thread command)
-  pub free : (place_after lines trace).running ≡ None
-  pub dir : (place_after lines trace).dir ≡ page_at (root_page (pages_made lines))
-
-abbrev pub IsOfThread : ℕ → Option RunningCall → Type 0
-IsOfThread thread None = ⊥
-IsOfThread thread (Some call) = call.session.thread ≡ thread
-
--- the line is done: the script stands before the next ones, and what it declares has been started
-pub record Passes (lines : List Line) (old new : List Entry) (line : Line) : Type 0 where
-  pub place : (below : List Line) → place_after lines old ≡ before (line ∷ below) (place_after lines old).running (place_after lines old).dir
-      → place_after lines new ≡ before below (place_after lines new).running (place_after lines new).dir
-  pub like : (d : Declared) → MayStand d line → IsLike lines (world_after lines old).machine (place_after lines old) d → IsLike lines (world_after lines new).machine (place_after lines new) (declared d line)
+-- the line is done: the run stands before those below, and what it declares has been started
+pub record Passes (r : RunnerView) (line : Line) (below : List Line) (d : Declared) : Type 0 where
+  pub place : IsBefore r below
+  pub like : IsLike r (declared d line)

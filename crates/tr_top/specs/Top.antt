@@ -7,12 +7,16 @@ use Rattle.tr_outside.specs.ImageBytes.{image_bytes}
 use Rattle.tr_outside.specs.Whole.{AppendsFront, ReadsUpTo}
 use Rattle.tr_script.specs.declared.script.Line.{Line}
 use Rattle.tr_script.specs.declared.status.Status.{Status}
-use Rattle.tr_script.specs.declared.status.Status.TheVariants.{Done, Usage, BadScript, ReadFault, WriteFault, NoMemory, Full}
+use Rattle.tr_script.specs.declared.status.Status.TheVariants as status
+use Rattle.tr_script.specs.declared.status.Status.TheVariants.{Done, Usage, BadScript, ReadFault, WriteFault, NoMemory}
 use Rattle.tr_script.specs.Grammar.{IsScript, text_limit}
 use Rattle.tr_script.specs.Places.{IsFirstBad}
 use Rattle.tr_top.specs.Along.{IsAtEnd}
-use Rattle.tr_text.specs.Text.{brief_texts}
-use Rattle.tr_top.specs.Run.{IsRun, trace_limit, place_after, last_words}
+use Rattle.tr_top.specs.Telling.{texts}
+use Rattle.tr_top.specs.declared.teller.Detail.{Detail}
+use Rattle.tr_top.specs.declared.teller.Detail.TheVariants.{Brief, Full}
+use Rattle.tr_core.specs.declared.limits.TheConstants.{TRACE_LIMIT}
+use Rattle.tr_top.specs.Run.{IsRun, place_after, last_words}
 
 -- What the sinks tell at a moment: the bytes that each took, where they are known, and its count of faults.
 pub record Sinks : Type 0 where
@@ -29,16 +33,24 @@ pub record Outside : Type 0 where
   pub script_faults : ℕ
   pub sinks : Sinks
 
--- the one form of the command line
-abbrev pub IsForm : List (List ℕ) → Type 0
-IsForm words = words ≡ codes "run" ∷ []
+abbrev pub sinks_of : Option (List ℕ) → ℕ → Option (List ℕ) → ℕ → Sinks
+sinks_of out out_faults saved saved_faults = record { out_written = out; out_faults = out_faults; saved_written = saved; saved_faults = saved_faults }
 
--- `out` takes the brief text of the whole trace, or a front of it
-abbrev pub Prints : Sinks → Sinks → List Entry → Type 0
-Prints before after trace = Appends before.out_written after.out_written (brief_texts trace)
+-- what the sources of the image and of the script tell, and the sinks
+abbrev pub outside_of : Option (List ℕ) → ℕ → Option (List ℕ) → ℕ → Sinks → Outside
+outside_of image image_faults script script_faults sinks = record { image_left = image; image_faults = image_faults; script_left = script; script_faults = script_faults; sinks = sinks }
 
-abbrev pub PrintsFront : Sinks → Sinks → List Entry → Type 0
-PrintsFront before after trace = AppendsFront before.out_written after.out_written (brief_texts trace)
+-- The forms of the command line: `run` prints a run in brief, `trace` in full.
+abbrev pub IsForm : List (List ℕ) → Detail → Type 0
+IsForm words Brief = words ≡ codes "run" ∷ []
+IsForm words Full = words ≡ codes "trace" ∷ []
+
+-- `out` takes the text of the whole trace, or a front of it
+abbrev pub Prints : Detail → Sinks → Sinks → List Entry → Type 0
+Prints detail before after trace = Appends before.out_written after.out_written (texts detail trace)
+
+abbrev pub PrintsFront : Detail → Sinks → Sinks → List Entry → Type 0
+PrintsFront detail before after trace = AppendsFront before.out_written after.out_written (texts detail trace)
 
 -- `saved` takes nothing; or the image of the last words, or a front of it
 abbrev pub SavesNothing : Sinks → Sinks → Type 0
@@ -51,50 +63,50 @@ abbrev pub SavesFront : Sinks → Sinks → List Line → List Entry → Type 0
 SavesFront before after lines trace = AppendsFront before.saved_written after.saved_written (image_bytes (last_words lines trace))
 
 -- the script was run to its end
-pub record IsDone (before after : Sinks) (lines : List Line) (trace : List Entry) : Type 0 where
+pub record IsDone (detail : Detail) (before after : Sinks) (lines : List Line) (trace : List Entry) : Type 0 where
   pub run : IsRun lines trace
   pub ended : IsAtEnd (place_after lines trace)
-  pub out : Prints before after trace
+  pub out : Prints detail before after trace
   pub saved : Saves before after lines trace
 
 -- the trace is full, and a further entry is due
-pub record IsFull (before after : Sinks) (lines : List Line) (trace : List Entry) : Type 0 where
+pub record IsFull (detail : Detail) (before after : Sinks) (lines : List Line) (trace : List Entry) : Type 0 where
   pub run : IsRun lines trace
-  pub full : trace_limit ≤ length trace
+  pub full : TRACE_LIMIT ≤ length trace
   pub due : IsAtEnd (place_after lines trace) → ⊥
-  pub out : Prints before after trace
+  pub out : Prints detail before after trace
   pub saved : SavesNothing before after
 
 -- memory ran out in the run
-pub record IsCutShort (before after : Sinks) (lines : List Line) (trace : List Entry) : Type 0 where
+pub record IsCutShort (detail : Detail) (before after : Sinks) (lines : List Line) (trace : List Entry) : Type 0 where
   pub run : IsRun lines trace
-  pub out : PrintsFront before after trace
+  pub out : PrintsFront detail before after trace
   pub saved : SavesNothing before after
 
 -- `out` failed
-pub record IsUnprinted (before after : Sinks) (lines : List Line) (trace : List Entry) : Type 0 where
+pub record IsUnprinted (detail : Detail) (before after : Sinks) (lines : List Line) (trace : List Entry) : Type 0 where
   pub run : IsRun lines trace
   pub cause : Rose before.out_faults after.out_faults
-  pub out : PrintsFront before after trace
+  pub out : PrintsFront detail before after trace
   pub saved : SavesNothing before after
 
 -- `saved` failed, after the script was run to its end
-pub record IsUnsaved (before after : Sinks) (lines : List Line) (trace : List Entry) : Type 0 where
+pub record IsUnsaved (detail : Detail) (before after : Sinks) (lines : List Line) (trace : List Entry) : Type 0 where
   pub run : IsRun lines trace
   pub ended : IsAtEnd (place_after lines trace)
   pub cause : Rose before.saved_faults after.saved_faults
-  pub out : Prints before after trace
+  pub out : Prints detail before after trace
   pub saved : SavesFront before after lines trace
 
 -- how a run ends, and what the sinks took, by the status; the others come before a run
-abbrev pub RunEnds : Sinks → Sinks → List Line → Status → List Entry → Type 0
-RunEnds before after lines Done trace = IsDone before after lines trace
-RunEnds before after lines Full trace = IsFull before after lines trace
-RunEnds before after lines NoMemory trace = IsCutShort before after lines trace
-RunEnds before after lines WriteFault trace = IsUnprinted before after lines trace ⊎ IsUnsaved before after lines trace
-RunEnds before after lines Usage trace = ⊥
-RunEnds before after lines (BadScript line column) trace = ⊥
-RunEnds before after lines ReadFault trace = ⊥
+abbrev pub RunEnds : Detail → Sinks → Sinks → List Line → Status → List Entry → Type 0
+RunEnds detail before after lines Done trace = IsDone detail before after lines trace
+RunEnds detail before after lines status.Full trace = IsFull detail before after lines trace
+RunEnds detail before after lines NoMemory trace = IsCutShort detail before after lines trace
+RunEnds detail before after lines WriteFault trace = IsUnprinted detail before after lines trace ⊎ IsUnsaved detail before after lines trace
+RunEnds detail before after lines Usage trace = ⊥
+RunEnds detail before after lines (BadScript line column) trace = ⊥
+RunEnds detail before after lines ReadFault trace = ⊥
 
 -- the script is what all bytes that the source had left say
 pub record ReadsScript (left rest : Option (List ℕ)) (lines : List Line) : Type 0 where
@@ -116,21 +128,21 @@ pub record BeginsNothing (before after : Sinks) (trace : List Entry) : Type 0 wh
   pub empty : trace ≡ []
   pub sinks : after ≡ before
 
--- a script was read, and its run ended so
-abbrev pub Runs : Outside → Outside → Status → List Entry → Type 0
-Runs before after status trace =
-    (lines : List Line) × ReadsScript before.script_left after.script_left lines × RunEnds before.sinks after.sinks lines status trace
+-- a script was read, and its run ended so, told as the words ask for
+abbrev pub Runs : List (List ℕ) → Outside → Outside → Status → List Entry → Type 0
+Runs words before after status trace =
+    (detail : Detail) × IsForm words detail × (lines : List Line) × ReadsScript before.script_left after.script_left lines × RunEnds detail before.sinks after.sinks lines status trace
 
 -- What the call has done that ended with a status and a trace.
-abbrev pub Ends : Outside → Outside → Status → List Entry → Type 0
-Ends before after Usage trace = BeginsNothing before.sinks after.sinks trace × (after.script_left ≡ before.script_left) × (after.script_faults ≡ before.script_faults)
-Ends before after (BadScript line column) trace = BeginsNothing before.sinks after.sinks trace × ReadsNoScript before.script_left after.script_left line column
-Ends before after ReadFault trace =
+abbrev pub Ends : List (List ℕ) → Outside → Outside → Status → List Entry → Type 0
+Ends words before after Usage trace = BeginsNothing before.sinks after.sinks trace × (after.script_left ≡ before.script_left) × (after.script_faults ≡ before.script_faults)
+Ends words before after (BadScript line column) trace = BeginsNothing before.sinks after.sinks trace × ReadsNoScript before.script_left after.script_left line column
+Ends words before after ReadFault trace =
     BeginsNothing before.sinks after.sinks trace × Rose before.script_faults after.script_faults
-Ends before after NoMemory trace = BeginsNothing before.sinks after.sinks trace ⊎ Runs before after NoMemory trace
-Ends before after Done trace = Runs before after Done trace
-Ends before after Full trace = Runs before after Full trace
-Ends before after WriteFault trace = Runs before after WriteFault trace
+Ends words before after NoMemory trace = BeginsNothing before.sinks after.sinks trace ⊎ Runs words before after NoMemory trace
+Ends words before after Done trace = Runs words before after Done trace
+Ends words before after status.Full trace = Runs words before after status.Full trace
+Ends words before after WriteFault trace = Runs words before after WriteFault trace
 
 -- counts of faults never fall
 pub record CountsStay (before after : Outside) : Type 0 where
@@ -143,6 +155,6 @@ pub record CountsStay (before after : Outside) : Type 0 where
 pub record IsAnswered (words : List (List ℕ)) (before after : Outside) (status : Status) (trace : List Entry) : Type 0 where
   pub image_left : after.image_left ≡ before.image_left
   pub image_faults : after.image_faults ≡ before.image_faults
-  pub usage : (status ≡ Usage) ↔ (IsForm words → ⊥)
+  pub usage : (status ≡ Usage) ↔ ((detail : Detail) → IsForm words detail → ⊥)
   pub counts : CountsStay before after
-  pub ends : Ends before after status trace
+  pub ends : Ends words before after status trace

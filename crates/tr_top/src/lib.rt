@@ -1,8 +1,9 @@
 //! The top call: it reads a script, runs it on the machine, writes the replies as they come and the image at the end.
 #![tactic(auto)]
 
-mod log;
 mod runner;
+mod stop;
+mod teller;
 #[cfg(test)]
 mod tests;
 mod top;

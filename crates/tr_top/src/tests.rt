@@ -11,6 +11,10 @@ const FIRST_RUN: &str =
 
 const FIRST_REPLIES: &str = "t1 made\nt1 info file 0 0 0 666\n";
 
+/// What a trace of that run tells beside its actions.
+const FIRST_EVENTS: &str =
+    "mkfs 64\nnew p1 0 0\nnew t1 p1\nt1 call create /f 666\nt1 reply made\nt1 call stat /f\nt1 reply info file 0 0 0 666\n";
+
 /// Bytes of a page, and of an image of 64 pages.
 const PAGE_BYTES: usize = 4096;
 
@@ -198,6 +202,55 @@ fn each_reply_is_a_line(rt: HostRuntime) -> Result<(), NoMemory> {
     Ok(())
 }
 
+/// Whether the line tells an action of t1 and how it was answered.
+fn tells_action(line: &str) -> bool {
+    let marks = [
+        "plain", "open", "close", "take", "note", "check", "point", "commit",
+    ];
+    let Some((action, answer)) = line.split_once(" = ") else {
+        return false;
+    };
+    let Some(told) = action.strip_prefix("t1 0 ") else {
+        return false;
+    };
+    marks.iter().any(|mark| told.starts_with(mark))
+        && ["word ", "done", "found ", "mapped ", "pages "]
+            .iter()
+            .any(|kind| answer.starts_with(kind))
+}
+
+#[test]
+fn a_trace_tells_each_entry(rt: HostRuntime) -> Result<(), NoMemory> {
+    let ran = run_on(rt.alloc(), &["trace"], FIRST_RUN, NONE, IMAGE_BYTES)?;
+    assert_eq!(rt; ran.outcome.status, Status::Done);
+    let text = str::from_utf8(ran.out.bytes()).unwrap_or("");
+    let mut events = String::new(rt.alloc());
+    for line in text.lines() {
+        if !tells_action(line) {
+            writeln!(events, "{line}")?;
+        }
+    }
+    assert_eq!(rt; events.as_str(), FIRST_EVENTS);
+    assert_eq!(rt; text.lines().count(), ran.outcome.trace.entries().len());
+    Ok(())
+}
+
+#[test]
+fn a_trace_is_told_entry_by_entry(rt: HostRuntime) -> Result<(), NoMemory> {
+    for (out, told) in [(1, ""), (2, "mkfs 64\n"), (3, "mkfs 64\nnew p1 0 0\n")] {
+        let fails = Fails {
+            script: 0,
+            out,
+            saved: 0,
+        };
+        let ran = run_on(rt.alloc(), &["trace"], FIRST_RUN, fails, IMAGE_BYTES)?;
+        assert_eq!(rt; ran.outcome.status, Status::WriteFault, "{fails:?}");
+        assert_eq!(rt; ran.out.bytes(), told.as_bytes(), "{fails:?}");
+        assert!(rt; ran.saved.bytes().is_empty(), "{fails:?}");
+    }
+    Ok(())
+}
+
 #[test]
 fn a_new_image_is_saved(rt: HostRuntime) -> Result<(), NoMemory> {
     let ran = run_script(rt.alloc(), "mkfs 64")?;
@@ -323,13 +376,16 @@ fn other_words_do_nothing(rt: HostRuntime) -> Result<(), NoMemory> {
         out: 1,
         saved: 1,
     };
-    let forms: [&[&str]; 25] = [
+    let forms: [&[&str]; 28] = [
         &[],
         &["run", "run"],
         &["run", "help"],
         &["run", "-v"],
         &["run", ""],
         &["Run"],
+        &["trace", "trace"],
+        &["trace", "run"],
+        &["Trace"],
         &[""],
         &["help"],
         &["--help"],
@@ -369,15 +425,17 @@ fn a_text_that_is_no_script_does_nothing(rt: HostRuntime) -> Result<(), NoMemory
             7,
         ),
     ] {
-        let ran = run_script(rt.alloc(), text)?;
-        assert_eq!(rt;
-            ran.outcome.status,
-            Status::BadScript { line, column },
-            "{text:?}"
-        );
-        assert!(rt; ran.outcome.trace.entries().is_empty(), "{text:?}");
-        assert!(rt; ran.out.bytes().is_empty(), "{text:?}");
-        assert!(rt; ran.saved.bytes().is_empty(), "{text:?}");
+        for word in ["run", "trace"] {
+            let ran = run_on(rt.alloc(), &[word], text, NONE, IMAGE_BYTES)?;
+            assert_eq!(rt;
+                ran.outcome.status,
+                Status::BadScript { line, column },
+                "{word} {text:?}"
+            );
+            assert!(rt; ran.outcome.trace.entries().is_empty(), "{word} {text:?}");
+            assert!(rt; ran.out.bytes().is_empty(), "{word} {text:?}");
+            assert!(rt; ran.saved.bytes().is_empty(), "{word} {text:?}");
+        }
     }
     Ok(())
 }

@@ -1,17 +1,18 @@
 // The top call.
-ghost use Rattle.std.specs.Prelude.{◌≡◌, ◌↔◌, ◌≤◌, ◌<◌, [], map, length, IfOk, IfErr, IsTrue};
+ghost use Rattle.std.specs.Prelude.{◌≡◌, ◌≤◌, ◌<◌, [], map, length, IfOk, IfErr, MatchOption, false};
 ghost use Rattle.std.specs.String.{string_bytes};
-ghost use Rattle.pm_words.specs.Memory.{present_values};
 ghost use Rattle.tr_types.specs.Fold.{Each};
 ghost use Rattle.tr_outside.specs.ImageBytes.{image_bytes};
 ghost use Rattle.tr_script.specs.Grammar.{MayStand, declared, nothing_declared};
-ghost use Rattle.tr_top.specs.Run.{pages_made};
-ghost use Rattle.tr_top.specs.Top.{IsAnswered, IsForm, ReadsScript, RunEnds};
+ghost use Rattle.tr_top.specs.Run.{last_words, pages_made};
+ghost use Rattle.tr_top.specs.declared.teller.Detail.{Detail};
+ghost use Rattle.tr_top.specs.Top.{IsAnswered, IsForm, ReadsScript, RunEnds, outside_of, sinks_of};
 ghost use Rattle.tr_top.specs.Completes.{Completes};
 ghost use Rattle.tr_top.specs.Ending.{IsRefusal, IsSaved, stop_status};
 
-use crate::log::Stop;
 use crate::runner::Runner;
+use crate::stop::Stop;
+use crate::teller::Detail;
 use std::alloc::Global;
 use tr_outside::{ReadError, Sink, Source, read_up_to, write_image};
 use tr_script::{Line, Script, ScriptFault, Status, read_script};
@@ -27,8 +28,9 @@ pub struct Outcome {
     pub trace: Trace,
 }
 
-/// Does what the command line's words say. Their one form is `run`: it reads a script, runs it, writes the replies
-/// to `out` as they come, and at the end the image to `saved`. A script begins with a new image, so `image` isn't read.
+/// Does what the command line's words say, which are `run` or `trace`: it reads a script, runs it, writes to `out` the
+/// replies as they come, or each entry in full, and at the end the image to `saved`. A script begins with a new image, so
+/// `image` isn't read.
 pub fn zofs_run<I: Source, S: Source, O: Sink, D: Sink>(
     alloc: Global,
     words: &[String],
@@ -39,38 +41,18 @@ pub fn zofs_run<I: Source, S: Source, O: Sink, D: Sink>(
 ) -> Outcome
     ensures unread { image.new ≡ image.old }
     ensures answered { IsAnswered (map string_bytes words.now)
-        (record {
-          image_left = I.left image.old;
-          image_faults = I.faults image.old;
-          script_left = S.left script.old;
-          script_faults = S.faults script.old;
-          sinks = record {
-            out_written = O.written out.old;
-            out_faults = O.faults out.old;
-            saved_written = D.written saved.old;
-            saved_faults = D.faults saved.old;
-          };
-        })
-        (record {
-          image_left = I.left image.new;
-          image_faults = I.faults image.new;
-          script_left = S.left script.new;
-          script_faults = S.faults script.new;
-          sinks = record {
-            out_written = O.written out.new;
-            out_faults = O.faults out.new;
-            saved_written = D.written saved.new;
-            saved_faults = D.faults saved.new;
-          };
-        })
+        (outside_of (I.left image.old) (I.faults image.old) (S.left script.old) (S.faults script.old)
+        (sinks_of (O.written out.old) (O.faults out.old) (D.written saved.old) (D.faults saved.old)))
+        (outside_of (I.left image.new) (I.faults image.new) (S.left script.new) (S.faults script.new)
+        (sinks_of (O.written out.new) (O.faults out.new) (D.written saved.new) (D.faults saved.new)))
         result.status result.trace }
 {
     let _ = image;
-    if !is_form(words) {
+    let Some(detail) = form_of(words) else {
         return nothing_begun(alloc, Status::Usage);
-    }
+    };
     match read(alloc, script) {
-        Ok(script) => run(alloc, &script, out, saved),
+        Ok(script) => run(alloc, detail, &script, out, saved),
         Err(status) => nothing_begun(alloc, status),
     }
 }
@@ -81,13 +63,19 @@ pub fn completes_law()
     ensures { Completes }
 {}
 
-// The one form is `run` alone.
-fn is_form(words: &[String]) -> bool
-    ensures { IsTrue result ↔ IsForm (map string_bytes words.now) }
+// The detail that the words ask for, which are `run` or `trace` alone.
+fn form_of(words: &[String]) -> Option<Detail>
+    ensures { MatchOption result ((detail : Detail) → IsForm (map string_bytes words.now) detail → ⊥) (IsForm (map string_bytes words.now)) }
 {
-    match words {
-        [word] => word.as_str() == "run",
-        _ => false,
+    let [word] = words else {
+        return None;
+    };
+    if word.as_str() == "run" {
+        Some(Detail::Brief)
+    } else if word.as_str() == "trace" {
+        Some(Detail::Full)
+    } else {
+        None
     }
 }
 
@@ -130,27 +118,23 @@ fn pages_made(script: &Script) -> u32
 }
 
 // Runs a script to its end, and saves the image.
-fn run<O: Sink, D: Sink>(alloc: Global, script: &Script, out: &mut O, saved: &mut D) -> Outcome
+fn run<O: Sink, D: Sink>(
+    alloc: Global,
+    detail: Detail,
+    script: &Script,
+    out: &mut O,
+    saved: &mut D,
+) -> Outcome
     requires orderly { Each declared MayStand nothing_declared script.now }
     requires some { 0 < length script.now }
-    ensures ends { RunEnds
-        (record {
-          out_written = O.written out.old;
-          out_faults = O.faults out.old;
-          saved_written = D.written saved.old;
-          saved_faults = D.faults saved.old;
-        })
-        (record {
-          out_written = O.written out.new;
-          out_faults = O.faults out.new;
-          saved_written = D.written saved.new;
-          saved_faults = D.faults saved.new;
-        })
+    ensures ends { RunEnds detail
+        (sinks_of (O.written out.old) (O.faults out.old) (D.written saved.old) (D.faults saved.old))
+        (sinks_of (O.written out.new) (O.faults out.new) (D.written saved.new) (D.faults saved.new))
         script.now result.status result.trace }
     ensures out_later { O.faults out.old ≤ O.faults out.new }
     ensures saved_later { D.faults saved.old ≤ D.faults saved.new }
 {
-    let Ok(mut runner) = Runner::begin(alloc, script, pages_made(script)) else {
+    let Ok(mut runner) = Runner::begin(alloc, script, detail, pages_made(script)) else {
         return nothing_begun(alloc, Status::NoMemory);
     };
     let status = match runner.run(out) {
@@ -175,8 +159,9 @@ fn status_of(stop: Stop) -> Status
 
 // Saves the words as they are at the end of a run.
 fn save<D: Sink>(runner: &Runner, saved: &mut D) -> Status
+    requires { runner.now.core.failed ≡ false }
     ensures saved { IsSaved result (D.written saved.old) (D.written saved.new) (D.faults saved.old) (D.faults saved.new)
-        (image_bytes (present_values runner.now.machine.bus.words)) }
+        (image_bytes (last_words runner.now.lines runner.now.core.trace)) }
     ensures later { D.faults saved.old ≤ D.faults saved.new }
 {
     let Ok(image) = runner.image() else {

@@ -1,18 +1,25 @@
-use Rattle.std.proofs.Common.{List, subst}
-use Rattle.tr_script.specs.declared.script.Line.{Line}
-use Rattle.tr_top.specs.declared.runner.Turned.{Turned}
-use Rattle.tr_top.specs.declared.runner.Turned.TheVariants.{Ended}
-use Rattle.tr_top.specs.Run.{world_after, place_after}
-use Rattle.tr_top.specs.Running.{WhoStays, TurnsTo}
-use Rattle.tr_top.proofs.CallRuns.{finish_passed}
+use Rattle.std.proofs.Common.{ap, subst, ◌∙◌, Err, Ok}
+use Rattle.std.proofs.lemmas.Result.{err_from_is_err_and}
+use Rattle.tr_top.specs.Running.{RunnerView, IsAlong}
+use Rattle.tr_top.proofs.CallRuns.{has_call, finish_turned, finish_calls, turned_then}
+use Rattle.tr_top.proofs.RunLemmas.{goes_on, goes_then}
 use Rattle.tr_top.proofs.runner.Runner.finish.Goals as goal
 
-pub returns-clause-passed : goal.returns-clause-passed
-returns-clause-passed g c =
-    let i = c.loop-call.invariant in
+pub returns-in_err-turn-clause-goes : goal.returns-in_err-turn-clause-goes
+returns-in_err-turn-clause-goes g c =
+    let p = err_from_is_err_and c.from_residual.result c.from_residual.ensures.1 in
+    goes_on c.from_residual.result c.in_err-turn.field-0.0 c.args.self.now c.loop-self.self c.turn.new.self _ _ _ _ _ _ (p.1 ∙ ap Err p.2) c.loop-self.invariant.goes c.in_err-turn.ensures.goes
+
+pub loop-self-preserved : goal.loop-self-preserved
+loop-self-preserved g c =
+    let i = c.loop-self.invariant in
     let t = c.in_ok-turn.ensures in
-    let old = c.loop-call.self.log.trace in
-    let new = c.turn.new.self.log.trace in
-    let who = subst (λ (l : List Line). WhoStays (world_after l old).machine (world_after l new).machine) i.script t.who in
-    let ended = subst (λ (x : Turned). TurnsTo x (place_after c.loop-call.self.script.now old) (place_after c.loop-call.self.script.now new)) c.in_default-2.is t.place in
-    finish_passed _ _ _ _ _ _ _ _ _ _ _ _ i.runs who (subst (λ (l : List Line). TurnsTo Ended (place_after l old) (place_after l new)) i.script ended)
+    let h = t.turned.1 in
+    let along = subst (λ (r : RunnerView). IsAlong r.lines r.core) c.self.view_is c.self.invariant in
+    let has = has_call c.loop-self.self c.args.thread h.mark along i.goes.works h.was_due in
+    record {
+      goes = goes_then (Ok tt) c.args.self.now c.loop-self.self c.turn.new.self _ _ _ _ _ _ i.goes t.goes;
+      place = finish_turned c.loop-self.self c.turn.new.self c.args.thread t.turned.0 t.goes.lines has h c.args.self.now i.place;
+      calls = finish_calls c.loop-self.self c.turn.new.self c.args.thread t.turned.0 t.goes.lines has h c.args.self.now i.calls;
+      who = turned_then c.loop-self.self c.turn.new.self c.args.thread t.turned.0 t.goes.lines has h c.args.self.now i.who;
+    }

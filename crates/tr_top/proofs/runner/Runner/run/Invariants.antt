@@ -7,7 +7,6 @@ invariant-loop-line g l =
     let written = g.O.Sink.written in
     let faults = g.O.Sink.faults in
     record {
-      items : l.line-items ≡ l.fn.self.script.now;
-      script : l.self.script.now ≡ l.fn.self.script.now;
-      runs : LineRuns l.fn.self.script.now l.self.machine l.line-index l.fn.self.log.trace l.self.log.trace l.self.running (written l.fn.out) (written l.out) (faults l.fn.out) (faults l.out);
+      items : l.line-items ≡ l.fn.self.lines;
+      runs : LineRuns l.fn.self l.self l.line-index (written l.fn.out) (written l.out) (faults l.fn.out) (faults l.out);
     }

@@ -1,115 +1,29 @@
-use Rattle.std.proofs.Common.{◌≡◌, ℕ, refl, sym, ap, ◌∙◌, subst, ◌++◌, ◌∷◌, [], Some}
-use Rattle.std.specs.Option.{option_copied}
+use Rattle.std.proofs.Common.{ap, sym, subst, ◌∙◌, Err}
 use Rattle.std.proofs.lemmas.Result.{err_from_is_err_and}
-use Rattle.bus_model.specs.Machine.{Answers}
-use Rattle.tr_types.specs.declared.action.Answer.{Answer}
-use Rattle.tr_types.specs.declared.entry.Entry.TheVariants as entry
-use Rattle.tr_dispatch.specs.Sessions.{SessionStepsFrom, answer_told}
-use Rattle.tr_top.specs.Run.{world_after}
-use Rattle.tr_top.specs.Running.{IsSound, answer_to}
-use Rattle.tr_top.specs.declared.runner.RunningCall.{RunningCall}
-use Rattle.tr_top.proofs.EntryLemmas.{adds_run, timeless_moved}
-use Rattle.tr_top.proofs.RunLemmas.{goes_nowhere, goes_ok, goes_err, tied_more}
-use Rattle.tr_top.proofs.StandLemmas.{stands_added}
-use Rattle.tr_top.proofs.TurnSteps.{session_runs, turn_acts, turn_ends, act_sound, act_stands, reply_adds, reply_done}
+use Rattle.tr_core.specs.Core.{Adds, TurnsAs}
+use Rattle.tr_top.specs.Running.{RunnerView, TellsEntry, IsTurning, place_of}
+use Rattle.tr_top.proofs.AlongLemmas.{along_turned}
+use Rattle.tr_top.proofs.RunLemmas.{goes_told, turns_not}
 use Rattle.tr_top.proofs.runner.Runner.turn.Goals as goal
 
-pub returns-in_err-action-clause-goes : goal.returns-in_err-action-clause-goes
-returns-in_err-action-clause-goes g c =
-    let p = err_from_is_err_and c.from_residual-in_err-action.result c.from_residual-in_err-action.ensures.1 in
-    goes_nowhere c.from_residual-in_err-action.result p.0 _ _ _ _ c.requires.tied.run p.1 p.2
+pub returns-in_err-turn-clause-goes : goal.returns-in_err-turn-clause-goes
+returns-in_err-turn-clause-goes g c =
+    let v = c.self.view_is in
+    let why = c.in_err-turn.field-0.0 in
+    let p = err_from_is_err_and c.from_residual.result c.from_residual.ensures.1 in
+    turns_not c.args.self.now _ _ _ c.from_residual.result why (p.1 ∙ ap Err p.2) (ap (λ (r : RunnerView). r.lines) v) (ap (λ (r : RunnerView). r.detail) v) c.args.thread c.requires.turning
+    (subst (λ (r : RunnerView). TurnsAs r.core c.turn.new.self c.args.thread 0 (Err why)) v c.in_err-turn.ensures)
 
-pub next-requires : goal.next-requires
-next-requires g c =
-    let k = c.requires in
-    record { runs = session_runs c.args.call.now.session _ _ k.stands.knows }
+pub invariant_of-self-2 : goal.invariant_of-self-2
+invariant_of-self-2 g c =
+    along_turned c.self.inside.script.now c.self.inside.core c.turn.new.self c.args.thread c.in_ok-turn.field-0 c.self.invariant
+    (subst (λ (r : RunnerView). IsTurning c.args.thread (place_of r).turns) (sym c.self.view_is) c.requires.turning) c.in_ok-turn.ensures
 
-pub act-requires-clause-built : goal.act-requires-clause-built
-act-requires-clause-built g c =
-    let k = c.requires in
-    let trace = c.args.self.now.log.trace in
-    let w = world_after c.args.self.now.script.now trace in
-    let heard : answer_told (option_copied c.answer_at-answer.result) ≡ answer_to trace c.args.call.now.asked = ap answer_told c.answer_at-answer.ensures in
-    let steps = subst (SessionStepsFrom c.args.call.now.session (answer_told (option_copied c.answer_at-answer.result)) c.next.new.self) c.in-Act.is c.in_ok-action.ensures.gives in
-    (turn_acts w trace c.args.call.now c.next.new.self c.in-Act.mark c.in-Act.action _ heard steps c.next.ensures.thread c.next.ensures.command k.stands.knows).built
-
-pub act-requires-clause-sound : goal.act-requires-clause-sound
-act-requires-clause-sound g c =
-    let k = c.requires in
-    let trace = c.args.self.now.log.trace in
-    let w = world_after c.args.self.now.script.now trace in
-    let next : RunningCall = record { session = c.next.new.self; asked = c.len-call.result } in
-    let heard : answer_told (option_copied c.answer_at-answer.result) ≡ answer_to trace c.args.call.now.asked = ap answer_told c.answer_at-answer.ensures in
-    let steps = subst (SessionStepsFrom c.args.call.now.session (answer_told (option_copied c.answer_at-answer.result)) c.next.new.self) c.in-Act.is c.in_ok-action.ensures.gives in
-    let acts = turn_acts w trace c.args.call.now c.next.new.self c.in-Act.mark c.in-Act.action _ heard steps c.next.ensures.thread c.next.ensures.command k.stands.knows in
-    let same : c.next.new.self.thread ≡ c.thread-thread.result = c.next.ensures.thread ∙ sym c.thread-thread.ensures in
-    subst (λ (t : ℕ). (answer : Answer) → Answers w.machine.bus t 0 c.in-Act.action answer → IsSound w (entry.Act t 0 c.in-Act.mark c.in-Act.action answer)) same
-    (λ answer is. act_sound w _ trace c.args.call.now next c.in-Act.mark c.in-Act.action k.stands c.next.ensures.thread c.next.ensures.command acts answer is)
-
-pub returns-in_ok-act-in-Act-clause-stands : goal.returns-in_ok-act-in-Act-clause-stands
-returns-in_ok-act-in-Act-clause-stands g c =
-    let k = c.requires in
-    let lines = c.args.self.now.script.now in
-    let trace = c.args.self.now.log.trace in
-    let w = world_after lines trace in
-    let next : RunningCall = record { session = c.next.new.self; asked = c.len-call.result } in
-    let heard : answer_told (option_copied c.answer_at-answer.result) ≡ answer_to trace c.args.call.now.asked = ap answer_told c.answer_at-answer.ensures in
-    let steps = subst (SessionStepsFrom c.args.call.now.session (answer_told (option_copied c.answer_at-answer.result)) c.next.new.self) c.in-Act.is c.in_ok-action.ensures.gives in
-    let acts = turn_acts w trace c.args.call.now c.next.new.self c.in-Act.mark c.in-Act.action _ heard steps c.next.ensures.thread c.next.ensures.command k.stands.knows in
-    let same : c.thread-thread.result ≡ c.next.new.self.thread = c.thread-thread.ensures ∙ sym c.next.ensures.thread in
-    let (answer, answers, added) = c.in_ok-act-in-Act.ensures.added in
-    stands_added lines trace c.act.new.self.log.trace (entry.Act c.next.new.self.thread 0 c.in-Act.mark c.in-Act.action answer) (Some next)
-    (added ∙ ap (λ (t : ℕ). trace ++ entry.Act t 0 c.in-Act.mark c.in-Act.action answer ∷ []) same)
-    (act_stands w _ trace c.args.call.now next c.in-Act.mark c.in-Act.action k.stands c.next.ensures.thread c.next.ensures.command acts answer c.len-call.ensures
-    (subst (λ (t : ℕ). Answers w.machine.bus t 0 c.in-Act.action answer) same answers))
-
-pub returns-in_err-add-in-Over-clause-goes : goal.returns-in_err-add-in-Over-clause-goes
-returns-in_err-add-in-Over-clause-goes g c =
-    let k = c.requires in
-    let lines = c.args.self.now.script.now in
-    let trace = c.args.self.now.log.trace in
-    let heard : answer_told (option_copied c.answer_at-answer.result) ≡ answer_to trace c.args.call.now.asked = ap answer_told c.answer_at-answer.ensures in
-    let steps = subst (SessionStepsFrom c.args.call.now.session (answer_told (option_copied c.answer_at-answer.result)) c.next.new.self) c.in-Over.is c.in_ok-action.ensures.gives in
-    let ends = turn_ends (world_after lines trace) trace c.args.call.now c.next.new.self c.in-Over.reply _ heard steps c.next.ensures.thread k.stands.knows in
-    let same : c.thread-thread.result ≡ c.next.new.self.thread = c.thread-thread.ensures ∙ sym c.next.ensures.thread in
-    let adds = reply_adds lines c.args.self.now.machine trace c.args.call.now c.next.new.self c.thread-thread.result c.in-Over.reply k.tied k.stands same c.next.ensures.thread ends k.due in
-    let run = adds_run lines c.args.self.now.machine c.args.self.now.machine trace _ k.tied c.in_ok-check_room.ensures adds in
-    let p = err_from_is_err_and c.from_residual-in_err-add-in-Over.result c.from_residual-in_err-add-in-Over.ensures.1 in
-    rw (p.1, p.2) (goes_err _ _ _ _ _ _ _ _ _ k.tied.run run c.in_err-add-in-Over.ensures.added c.add.ensures.later)
-
-pub returns-in_ok-add-in-Over-clause-goes : goal.returns-in_ok-add-in-Over-clause-goes
-returns-in_ok-add-in-Over-clause-goes g c =
-    let k = c.requires in
-    let lines = c.args.self.now.script.now in
-    let trace = c.args.self.now.log.trace in
-    let heard : answer_told (option_copied c.answer_at-answer.result) ≡ answer_to trace c.args.call.now.asked = ap answer_told c.answer_at-answer.ensures in
-    let steps = subst (SessionStepsFrom c.args.call.now.session (answer_told (option_copied c.answer_at-answer.result)) c.next.new.self) c.in-Over.is c.in_ok-action.ensures.gives in
-    let ends = turn_ends (world_after lines trace) trace c.args.call.now c.next.new.self c.in-Over.reply _ heard steps c.next.ensures.thread k.stands.knows in
-    let same : c.thread-thread.result ≡ c.next.new.self.thread = c.thread-thread.ensures ∙ sym c.next.ensures.thread in
-    let adds = reply_adds lines c.args.self.now.machine trace c.args.call.now c.next.new.self c.thread-thread.result c.in-Over.reply k.tied k.stands same c.next.ensures.thread ends k.due in
-    let run = adds_run lines c.args.self.now.machine c.args.self.now.machine trace _ k.tied c.in_ok-check_room.ensures adds in
-    goes_ok _ _ _ _ _ _ _ _ _ run c.in_ok-add-in-Over.ensures.added.0 c.in_ok-add-in-Over.ensures.added.1 c.add.ensures.later
-
-pub returns-in_ok-add-in-Over-clause-tied : goal.returns-in_ok-add-in-Over-clause-tied
-returns-in_ok-add-in-Over-clause-tied g c =
-    let k = c.requires in
-    let lines = c.args.self.now.script.now in
-    let trace = c.args.self.now.log.trace in
-    let heard : answer_told (option_copied c.answer_at-answer.result) ≡ answer_to trace c.args.call.now.asked = ap answer_told c.answer_at-answer.ensures in
-    let steps = subst (SessionStepsFrom c.args.call.now.session (answer_told (option_copied c.answer_at-answer.result)) c.next.new.self) c.in-Over.is c.in_ok-action.ensures.gives in
-    let ends = turn_ends (world_after lines trace) trace c.args.call.now c.next.new.self c.in-Over.reply _ heard steps c.next.ensures.thread k.stands.knows in
-    let same : c.thread-thread.result ≡ c.next.new.self.thread = c.thread-thread.ensures ∙ sym c.next.ensures.thread in
-    let adds = reply_adds lines c.args.self.now.machine trace c.args.call.now c.next.new.self c.thread-thread.result c.in-Over.reply k.tied k.stands same c.next.ensures.thread ends k.due in
-    let run = adds_run lines c.args.self.now.machine c.args.self.now.machine trace _ k.tied c.in_ok-check_room.ensures adds in
-    tied_more _ _ c.args.self.now.machine _ _ _ k.tied run c.in_ok-add-in-Over.ensures.added.0 adds.bus adds.works refl k.tied.registers (timeless_moved (world_after lines trace) (entry.Reply c.thread-thread.result c.in-Over.reply) adds.comes k.tied.timeless)
-
-pub returns-in_ok-add-in-Over-clause-stands : goal.returns-in_ok-add-in-Over-clause-stands
-returns-in_ok-add-in-Over-clause-stands g c =
-    let k = c.requires in
-    let lines = c.args.self.now.script.now in
-    let trace = c.args.self.now.log.trace in
-    let heard : answer_told (option_copied c.answer_at-answer.result) ≡ answer_to trace c.args.call.now.asked = ap answer_told c.answer_at-answer.ensures in
-    let steps = subst (SessionStepsFrom c.args.call.now.session (answer_told (option_copied c.answer_at-answer.result)) c.next.new.self) c.in-Over.is c.in_ok-action.ensures.gives in
-    let ends = turn_ends (world_after lines trace) trace c.args.call.now c.next.new.self c.in-Over.reply _ heard steps c.next.ensures.thread k.stands.knows in
-    let same : c.thread-thread.result ≡ c.next.new.self.thread = c.thread-thread.ensures ∙ sym c.next.ensures.thread in
-    reply_done lines trace _ c.args.call.now c.next.new.self c.thread-thread.result c.in-Over.reply k.stands same c.next.ensures.thread ends c.in_ok-add-in-Over.ensures.added.0
+pub returns-clause-goes : goal.returns-clause-goes
+returns-clause-goes g c =
+    let v = c.self.view_is in
+    let h = c.in_ok-turn.ensures in
+    let t = c.tell_last.ensures in
+    goes_told c.tell_last.result c.args.self.now _ h.e _ _ _ _ (ap (λ (r : RunnerView). r.lines) v) (t.detail ∙ ap (λ (r : RunnerView). r.detail) v)
+    (subst (λ (r : RunnerView). Adds r.core c.turn.new.self h.e) v h.adds)
+    (λ xs x is. subst (λ (r : RunnerView). TellsEntry r.detail c.tell_last.result x (g.O.Sink.written c.args.out.now) (g.O.Sink.written c.tell_last.new.out) (g.O.Sink.faults c.args.out.now) (g.O.Sink.faults c.tell_last.new.out)) v (t.told xs x is)) t.later
