@@ -112,7 +112,7 @@ module _ (opening : List ℕ) (trace : List Entry) (m : MachineView) (places : L
     set_all : (later : List (Option Waiting)) (c : Option Waiting) → IsSet later c → place_in later ≡ put calls thread c
     set_all later c set = λ i t. set t i
 
-    act_keeps : (s : SessionStep) → waiting.next ≡ s → (after : Option Waiting) → StepsBy waiting.session s thread now m next trace longer after → (later : List (Option Waiting)) → IsSet later after → Keeps opening longer next (place_in later)
+    act_keeps : (s : SessionStep) → waiting.next ≡ s → (after : Option Waiting) → StepsBy waiting.session.value s thread now m next trace longer after → (later : List (Option Waiting)) → IsSet later after → Keeps opening longer next (place_in later)
     act_keeps (step.Act action mark) is (Some after) steps later set =
         let answers = subst (λ (b : Bus). Answers b thread now action steps.answer) k.bus steps.answers in
         keeps opening trace longer (entry.Act thread now mark action steps.answer) next (place_in later) run room steps.gains
@@ -129,7 +129,7 @@ module _ (opening : List ℕ) (trace : List Entry) (m : MachineView) (places : L
     pub turn_keeps : (after : Option Waiting) → Steps waiting thread now m next trace longer after → (later : List (Option Waiting)) → IsSet later after → Keeps opening longer next (place_in later)
     turn_keeps after steps later set = act_keeps waiting.next refl after steps later set
 
-    turn_by : (s : SessionStep) → waiting.next ≡ s → (after : Option Waiting) → StepsBy waiting.session s thread now m next trace longer after → (later : List (Option Waiting)) → IsSet later after
+    turn_by : (s : SessionStep) → waiting.next ≡ s → (after : Option Waiting) → StepsBy waiting.session.value s thread now m next trace longer after → (later : List (Option Waiting)) → IsSet later after
         → (turned : Turned) → turned.position ≡ length longer → turned.ended ≡ is_none after → IsTurned (view opening trace places false) (view opening longer later false) thread now turned
     turn_by (step.Act action mark) is (Some after) steps later set turned position ended = record {
       e = entry.Act thread now mark action steps.answer;
@@ -306,7 +306,7 @@ module _ (opening : List ℕ) (trace : List Entry) (m : MachineView) (places : L
   )
 
   -- what a waiting call is given to make
-  pub ready_all : (thread : ℕ) (waiting : Waiting) → place_in places thread ≡ Some waiting → RunsOn waiting.session.stage waiting.next × GivesAction waiting.next
+  pub ready_all : (thread : ℕ) (waiting : Waiting) → place_in places thread ≡ Some waiting → RunsOn waiting.session.value.stage waiting.next × GivesAction waiting.next
   ready_all thread waiting has = let ready = ready_now (world_after opening trace) m (place_in places) stands_now thread waiting has in (ready.runs, ready.gives)
 
   pub started_all : (thread : ℕ) → HasThread now thread → ThreadWasStarted m.bus thread

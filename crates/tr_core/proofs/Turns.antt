@@ -107,7 +107,7 @@ module _ (w : World) (m : MachineView) (calls : ℕ → Option Waiting) (k : Sta
       before = stage.Begin;
       told = Done;
       knows = subst (λ c. KnowsAt thread c stage.Begin Done given) (sym begins.command_is) begins_knowing;
-      leads = subst (λ c. LeadsTo thread c stage.Begin Done waiting.session.stage waiting.next) (sym begins.command_is) begins.leads;
+      leads = subst (λ c. LeadsTo thread c stage.Begin Done waiting.session.value.stage waiting.next) (sym begins.command_is) begins.leads;
       runs = begins.runs;
       gives = begins.gives;
     }
@@ -151,15 +151,15 @@ module _ (w : World) (m : MachineView) (calls : ℕ → Option Waiting) (k : Sta
       by None is = is
       by (Some c) is = absurd (other (k.alone t thread c waiting is has))
 
-  pub valid_now : IsCommand waiting.session.command
+  pub valid_now : IsCommand waiting.session.value.command
   valid_now = ready_now.knows.sits.valid
 
   seat_now : IsSeat (w.base.seats thread)
   seat_now = seated_in (w.base.seats thread) ready_now.knows.seat ready_now.knows.sits.seat_is
 
   -- what the session gave for this step
-  gives_now : (next : SessionStep) → waiting.next ≡ next → StageGives thread waiting.session.command waiting.session.stage next w
-  gives_now next is = subst (λ s. StageGives thread waiting.session.command waiting.session.stage s w) is (ready_now.leads w ready_now.knows)
+  gives_now : (next : SessionStep) → waiting.next ≡ next → StageGives thread waiting.session.value.command waiting.session.value.stage next w
+  gives_now next is = subst (λ s. StageGives thread waiting.session.value.command waiting.session.value.stage s w) is (ready_now.leads w ready_now.knows)
 
   -- An action was done.
   module _ (now : ℕ) (due : IsDue w.base.machine now) (mark : Mark) (action : Action) (is : waiting.next ≡ step.Act action mark) (answer : Answer) (answers : Answers w.base.machine.bus thread now action answer) where
@@ -169,10 +169,10 @@ module _ (w : World) (m : MachineView) (calls : ℕ → Option Waiting) (k : Sta
     abbrev acted : World
     acted = stepped w act
 
-    acts : SessionActs (KnowsAt thread waiting.session.command waiting.session.stage) thread mark action w
+    acts : SessionActs (KnowsAt thread waiting.session.value.command waiting.session.value.stage) thread mark action w
     acts = gives_now (step.Act action mark) is
 
-    goes : SessionGoes (KnowsAt thread waiting.session.command waiting.session.stage) thread now mark action w answer
+    goes : SessionGoes (KnowsAt thread waiting.session.value.command waiting.session.value.stage) thread now mark action w answer
     goes = acts.goes now answer answers
 
     act_windowed : IsWindowed acted
@@ -188,14 +188,14 @@ module _ (w : World) (m : MachineView) (calls : ℕ → Option Waiting) (k : Sta
       table = goes.knows.rooted.table;
     }
 
-    module _ (next : MachineView) (moved : next ≡ with_bus (bus_after thread now action answer m.bus)) (after : Waiting) (thread_is : after.session.thread ≡ waiting.session.thread) (command_is : after.session.command ≡ waiting.session.command) (leads : LeadsTo waiting.session.thread waiting.session.command waiting.session.stage answer after.session.stage after.next) (runs : RunsOn after.session.stage after.next) (gives : GivesAction after.next) where
+    module _ (next : MachineView) (moved : next ≡ with_bus (bus_after thread now action answer m.bus)) (after : Waiting) (thread_is : after.session.value.thread ≡ waiting.session.value.thread) (command_is : after.session.value.command ≡ waiting.session.value.command) (leads : LeadsTo waiting.session.value.thread waiting.session.value.command waiting.session.value.stage answer after.session.value.stage after.next) (runs : RunsOn after.session.value.stage after.next) (gives : GivesAction after.next) where
       ready_then : IsReady acted thread after
       ready_then = record {
         thread_is = thread_is ∙ ready_now.thread_is;
-        before = waiting.session.stage;
+        before = waiting.session.value.stage;
         told = answer;
-        knows = subst (λ c. KnowsAt thread c waiting.session.stage answer acted) (sym command_is) goes.knows;
-        leads = subst (λ c. LeadsTo thread c waiting.session.stage answer after.session.stage after.next) (sym command_is) (subst (λ t. LeadsTo t waiting.session.command waiting.session.stage answer after.session.stage after.next) ready_now.thread_is leads);
+        knows = subst (λ c. KnowsAt thread c waiting.session.value.stage answer acted) (sym command_is) goes.knows;
+        leads = subst (λ c. LeadsTo thread c waiting.session.value.stage answer after.session.value.stage after.next) (sym command_is) (subst (λ t. LeadsTo t waiting.session.value.command waiting.session.value.stage answer after.session.value.stage after.next) ready_now.thread_is leads);
         runs = runs;
         gives = gives;
       }

@@ -29,12 +29,12 @@ due_of (Some waiting) = Some (mark_of waiting.next)
 
 -- A call whose next step is ready: its session gave this step where it knew what its stage asked for, and that still stands.
 pub record IsReady (w : World) (thread : ℕ) (waiting : Waiting) : Type 0 where
-  pub thread_is : waiting.session.thread ≡ thread
+  pub thread_is : waiting.session.value.thread ≡ thread
   pub before : Stage
   pub told : Answer
-  pub knows : KnowsAt thread waiting.session.command before told w
-  pub leads : LeadsTo thread waiting.session.command before told waiting.session.stage waiting.next
-  pub runs : RunsOn waiting.session.stage waiting.next
+  pub knows : KnowsAt thread waiting.session.value.command before told w
+  pub leads : LeadsTo thread waiting.session.value.command before told waiting.session.value.stage waiting.next
+  pub runs : RunsOn waiting.session.value.stage waiting.next
   pub gives : GivesAction waiting.next
 
 -- how a thread stands

@@ -13,7 +13,8 @@ use tr_types::THREADS;
 /// A call that is under way, with its next step, which hasn't been made.
 #[derive(Debug, Drop)]
 pub struct Waiting {
-    pub session: Session,
+    // On the heap, so that a turn moves no session.
+    pub session: Box<Session>,
     pub next: SessionStep,
 }
 

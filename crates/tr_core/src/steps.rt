@@ -28,7 +28,7 @@ pub fn begin(
     ensures begins { IfOk result (Begins thread command) }
 {
     let told = command.copy(alloc)?;
-    let mut session = Session::begin(thread, cred, command);
+    let mut session = Box::new(alloc, Session::begin(thread, cred, command))?;
     let next = session.next(alloc, None, 0)?;
     trace.push(Entry::Call {
         thread,
@@ -48,7 +48,7 @@ pub fn step(
 ) -> Result<Option<Waiting>, AllocError>
     requires works { machine.old.failed ≡ false }
     requires started { ThreadWasStarted machine.old.bus thread }
-    requires runs { RunsOn waiting.session.stage waiting.next }
+    requires runs { RunsOn waiting.session.value.stage waiting.next }
     requires gives { GivesAction waiting.next }
     ensures steps { IfOk result (Steps waiting thread now machine.old machine.new trace.old trace.new) }
     ensures err { OnErr result (trace.new ≡ trace.old) }
