@@ -157,7 +157,7 @@ fn prepare_entry(
 #[cfg(test)]
 mod tests {
     use super::*;
-    use zo_plan::PlanRun;
+    use zo_plan::StoreRun;
 
     // The root directory of an image of 64 pages has no entry yet.
     fn place() -> Place {

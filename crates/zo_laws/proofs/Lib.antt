@@ -34,3 +34,13 @@ pub mod GrowLemmas
 pub mod NameCounts
 -- a coffer's directories as a look-up finds them
 pub mod Scenes
+-- marks of a word, and a word after flushes, fences and stores
+pub mod WordMarks
+-- what the actions of a run leave of a word
+pub mod DurableLemmas
+-- the notes beside leases
+pub mod NoteLemmas
+-- the counters beside leases
+pub mod CounterLemmas
+-- the stores of a run, and its words
+pub mod StoresInLemmas

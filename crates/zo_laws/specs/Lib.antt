@@ -12,3 +12,5 @@ pub mod Growing
 pub mod NameCounts
 -- a coffer's directories as a look-up finds them
 pub mod Scenes
+-- what a run of a plan leaves of the words that it prepares, and of its commit word
+pub mod RunWords

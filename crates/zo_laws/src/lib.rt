@@ -4,6 +4,7 @@
 
 mod links;
 mod makes;
+mod run_words;
 
 ghost use Rattle.zo_laws.specs.Laws.{OneChain, OneTree, NamesStay, TreeStays, RestStays};
 ghost use Rattle.zo_laws.specs.NameCounts.{NamesCounted};
@@ -11,6 +12,7 @@ ghost use Rattle.zo_laws.specs.Scenes.{DirectoriesShow, DirectoriesGrow};
 
 pub use links::link_law;
 pub use makes::{grow_law, make_law};
+pub use run_words::{counter_law, durable_law, note_law, others_law, stores_law};
 
 /// A word leads to one list of entries.
 pub fn one_chain()
