@@ -75,6 +75,13 @@ impl Bus {
         })
     }
 
+    pub fn into_words(self) -> Words
+        ensures { result ≡ self.bus.words }
+    {
+        let Bus { words, .. } = self;
+        words
+    }
+
     pub fn words(&self) -> &Words
         ensures { result.now ≡ self.now.bus.words }
     {

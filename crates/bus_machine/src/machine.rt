@@ -57,6 +57,14 @@ impl Machine {
         self.bus.words()
     }
 
+    /// The words of the memory, where the machine is done with.
+    pub fn into_words(self) -> Words
+        ensures { result ≡ self.bus.words }
+    {
+        let Machine { bus } = self;
+        bus.into_words()
+    }
+
     /// Whether the process was started.
     pub fn has_process(&self, process: u8) -> bool
         ensures { IsTrue result ↔ ProcessWasStarted self.now.bus process }

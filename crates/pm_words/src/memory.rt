@@ -190,6 +190,15 @@ impl Words {
         let words = Vec::from_slice(self.alloc, &self.present)?;
         Ok(Image::new(words))
     }
+
+    /// The present value of each word, at the end of a memory. No copy is made.
+    #[tactic(auto, using(crate::proofs::ViewLemmas::present_words_of))]
+    pub fn into_image(self) -> Image
+        ensures { result ≡ present_values self }
+    {
+        let Words { present, .. } = self;
+        Image::new(present)
+    }
 }
 
 // The place of the word at a byte address.

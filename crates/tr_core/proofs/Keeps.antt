@@ -38,8 +38,8 @@ use Rattle.tr_core.specs.Steps.{Acts, Begins, StepsBy, Steps, CanHappen, Happens
 use Rattle.tr_core.specs.Traces.{IsTraceOf, world_after}
 use Rattle.tr_core.proofs.Events.{event_next, event_stands}
 use Rattle.tr_core.proofs.Growing.{IsNext, grows, world_more, thread_lives, process_lives, length_more}
-use Rattle.tr_core.proofs.Puts.{put_same, put_other}
-use Rattle.tr_core.proofs.Strays.{stray_refused}
+use Rattle.tr_dispatch.proofs.Worlds.{put_same, put_other}
+use Rattle.tr_dispatch.proofs.SessionLaws.{stray_refused, rooted_key}
 use Rattle.tr_core.proofs.Turns.{some_none, call_next, call_stands, ready_now, valid_now, act_next, act_stands, reply_next, reply_stands}
 use Rattle.tr_core.proofs.Users.{roots_process, roots_thread, thread_stays}
 
@@ -68,7 +68,7 @@ keeps opening trace longer e next later run room is comes stands = (
 -- no call is due where none is under way
 due_none : (c : Option Waiting) → due_of c ≡ None → c ≡ None
 due_none None is = refl
-due_none (Some waiting) is = let clash : Some (mark_of waiting.next) ≡ None = is in cc
+due_none (Some waiting) is = let clash : Some (mark_of waiting.call.value.next) ≡ None = is in cc
 
 module _ (opening : List ℕ) (trace : List Entry) (m : MachineView) (places : List (Option Waiting)) (run : IsTraceOf opening trace) (k : Stands (world_after opening trace) m (place_in places)) (room : length trace < TRACE_LIMIT) where
   abbrev calls : ℕ → Option Waiting
@@ -91,9 +91,9 @@ module _ (opening : List ℕ) (trace : List Entry) (m : MachineView) (places : L
         (subst (Stands (stepped w (entry.Call thread command)) m) (sym set_call) (call_stands w m calls k none_due thread command started valid waiting begins))
 
     pub given_is : GivesAs (view opening trace places false) (view opening longer later false) thread command (Ok tt)
-    given_is = (record { worked = refl; works = refl; opening = refl; room = room; trace = is }, started, quiet thread, (mark_of waiting.next, λ t. due_is later t ∙ ap due_of (set t) ∙ by t (eqb t thread)))
+    given_is = (record { worked = refl; works = refl; opening = refl; room = room; trace = is }, started, quiet thread, (mark_of waiting.call.value.next, λ t. due_is later t ∙ ap due_of (set t) ∙ by t (eqb t thread)))
       where
-        by : (t : ℕ) (b : Bool) → due_of (cond b (Some waiting) (calls t)) ≡ cond b (Some (mark_of waiting.next)) (due_in (slice_get (map due_of places) t))
+        by : (t : ℕ) (b : Bool) → due_of (cond b (Some waiting) (calls t)) ≡ cond b (Some (mark_of waiting.call.value.next)) (due_in (slice_get (map due_of places) t))
         by t true = refl
         by t false = sym (due_is places t)
 
@@ -112,7 +112,7 @@ module _ (opening : List ℕ) (trace : List Entry) (m : MachineView) (places : L
     set_all : (later : List (Option Waiting)) (c : Option Waiting) → IsSet later c → place_in later ≡ put calls thread c
     set_all later c set = λ i t. set t i
 
-    act_keeps : (s : SessionStep) → waiting.next ≡ s → (after : Option Waiting) → StepsBy waiting.session.value s thread now m next trace longer after → (later : List (Option Waiting)) → IsSet later after → Keeps opening longer next (place_in later)
+    act_keeps : (s : SessionStep) → waiting.call.value.next ≡ s → (after : Option Waiting) → StepsBy waiting.call.value.session s thread now m next trace longer after → (later : List (Option Waiting)) → IsSet later after → Keeps opening longer next (place_in later)
     act_keeps (step.Act action mark) is (Some after) steps later set =
         let answers = subst (λ (b : Bus). Answers b thread now action steps.answer) k.bus steps.answers in
         keeps opening trace longer (entry.Act thread now mark action steps.answer) next (place_in later) run room steps.gains
@@ -127,9 +127,9 @@ module _ (opening : List ℕ) (trace : List Entry) (m : MachineView) (places : L
     act_keeps (step.Over reply) is (Some after) steps later set = absurd steps
 
     pub turn_keeps : (after : Option Waiting) → Steps waiting thread now m next trace longer after → (later : List (Option Waiting)) → IsSet later after → Keeps opening longer next (place_in later)
-    turn_keeps after steps later set = act_keeps waiting.next refl after steps later set
+    turn_keeps after steps later set = act_keeps waiting.call.value.next refl after steps later set
 
-    turn_by : (s : SessionStep) → waiting.next ≡ s → (after : Option Waiting) → StepsBy waiting.session.value s thread now m next trace longer after → (later : List (Option Waiting)) → IsSet later after
+    turn_by : (s : SessionStep) → waiting.call.value.next ≡ s → (after : Option Waiting) → StepsBy waiting.call.value.session s thread now m next trace longer after → (later : List (Option Waiting)) → IsSet later after
         → (turned : Turned) → turned.position ≡ length longer → turned.ended ≡ is_none after → IsTurned (view opening trace places false) (view opening longer later false) thread now turned
     turn_by (step.Act action mark) is (Some after) steps later set turned position ended = record {
       e = entry.Act thread now mark action steps.answer;
@@ -158,13 +158,11 @@ module _ (opening : List ℕ) (trace : List Entry) (m : MachineView) (places : L
 
     pub turn_is : (after : Option Waiting) → Steps waiting thread now m next trace longer after → (later : List (Option Waiting)) → IsSet later after
         → (turned : Turned) → turned.position ≡ length longer → turned.ended ≡ is_none after → IsTurned (view opening trace places false) (view opening longer later false) thread now turned
-    turn_is after steps later set turned position ended = turn_by waiting.next refl after steps later set turned position ended
+    turn_is after steps later set turned position ended = turn_by waiting.call.value.next refl after steps later set turned position ended
 
   -- An event has come about.
   keys : (row : Holder) → Contains m.bus.holders row → IsKey row.key
-  keys row among =
-      let root = k.rooted.rows row (subst (λ (b : Bus). Contains b.holders row) k.bus among) in
-      record { least = omega (arith, root.key); most = omega (arith, root.key) }
+  keys row among = rooted_key w k.rooted row (subst (λ (b : Bus). Contains b.holders row) k.bus among)
 
   still_timeless : (v : World) → v.base.machine.clock ≡ w.base.machine.clock → v.base.machine.latest ≡ w.base.machine.latest → v.base.machine.ended ≡ w.base.machine.ended → IsTimeless v.base.machine
   still_timeless v clock latest ended = record { clock = clock ∙ k.timeless.clock; latest = latest ∙ k.timeless.latest; ended = ended ∙ k.timeless.ended }
@@ -225,7 +223,7 @@ module _ (opening : List ℕ) (trace : List Entry) (m : MachineView) (places : L
   stray_keeps : (thread addr word : ℕ) → due_in (slice_get (map due_of places) thread) ≡ None → ThreadWasStarted w.base.machine.bus thread → (next : MachineView) (e : Entry) → Strays thread addr word m next e → (longer : List Entry) → longer ≡ trace ++ e ∷ [] → Keeps opening longer next calls
   stray_keeps thread addr word idle named next e strays longer is =
       let closed = ap (λ (b : Bus). pkru_of b thread) k.bus ∙ closed_by thread (calls thread) (due_none (calls thread) (sym (due_is places thread) ∙ idle)) (k.each thread) in
-      let refused = stray_refused m.bus thread closed keys addr strays.answer strays.stored in
+      let refused = stray_refused m.bus thread addr closed keys strays.answer strays.stored in
       fault_keeps thread addr word refused.0 named
       (subst (λ (b : Bus). IsStored b thread addr (Fault refused.0)) k.bus (subst (IsStored m.bus thread addr) refused.1 strays.stored))
       next (strays.machine ∙ ap (λ a. with_bus (bus_after thread 0 (Store addr word) a m.bus)) refused.1)
@@ -306,8 +304,13 @@ module _ (opening : List ℕ) (trace : List Entry) (m : MachineView) (places : L
   )
 
   -- what a waiting call is given to make
-  pub ready_all : (thread : ℕ) (waiting : Waiting) → place_in places thread ≡ Some waiting → RunsOn waiting.session.value.stage waiting.next × GivesAction waiting.next
+  pub ready_all : (thread : ℕ) (waiting : Waiting) → place_in places thread ≡ Some waiting → RunsOn waiting.call.value.session.stage waiting.call.value.next × GivesAction waiting.call.value.next
   ready_all thread waiting has = let ready = ready_now (world_after opening trace) m (place_in places) stands_now thread waiting has in (ready.runs, ready.gives)
+
+  -- a thread that has a call was started
+  pub caller_started : (thread : ℕ) (waiting : Waiting) → place_in places thread ≡ Some waiting → HasThread now thread
+  caller_started thread waiting has =
+      subst (λ c. HasThread c thread) now_is (ready_now (world_after opening trace) m (place_in places) stands_now thread waiting has).knows.sits.lives.0
 
   pub started_all : (thread : ℕ) → HasThread now thread → ThreadWasStarted m.bus thread
   started_all thread was = subst (λ (b : Bus). ThreadWasStarted b thread) (sym stands_now.bus) (of_fields (λ c. HasThread c thread) was)

@@ -4,8 +4,6 @@ pub mod Growing
 pub mod Same
 -- who was started, and for whom they act
 pub mod Users
--- a store that goes astray meets a closed window
-pub mod Strays
 -- the calls of threads, with one changed
 pub mod Puts
 -- how a core stands after an event

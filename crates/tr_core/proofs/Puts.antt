@@ -9,12 +9,7 @@ use Rattle.std.proofs.lemmas.Option.{unwrap_or-slice_get}
 use Rattle.tr_core.specs.Places.{flat, place_in}
 use Rattle.tr_core.specs.declared.calls.Waiting.{Waiting}
 use Rattle.tr_model.specs.Worlds.{put}
-
-pub put_same : {X : Type 0} (at : ℕ → X) (thread : ℕ) (x : X) → put at thread x thread ≡ x
-put_same at thread x = ap (λ (b : Bool). cond b x (at thread)) (eq-eqb thread thread refl)
-
-pub put_other : {X : Type 0} (at : ℕ → X) (thread : ℕ) (x : X) (t : ℕ) → t ≢ thread → put at thread x t ≡ at t
-put_other at thread x t ne = ap (λ (b : Bool). cond b x (at t)) (ne_eqb t thread ne)
+use Rattle.tr_dispatch.proofs.Worlds.{put_other}
 
 pub put_at : {X : Type 0} (at : ℕ → X) (thread : ℕ) (x : X) (t : ℕ) → t ≡ thread → put at thread x t ≡ x
 put_at at thread x t is = ap (λ (b : Bool). cond b x (at t)) (eq-eqb t thread is)

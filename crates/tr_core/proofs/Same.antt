@@ -147,7 +147,7 @@ module _ (w v : World) where
     thread_is = k.thread_is;
     before = k.before;
     told = k.told;
-    knows = knows_seen thread verdict seat lives waiting.session.value.command k.before k.told k.knows;
+    knows = knows_seen thread verdict seat lives waiting.call.value.session.command k.before k.told k.knows;
     leads = k.leads;
     runs = k.runs;
     gives = k.gives;

@@ -29,7 +29,8 @@ use Rattle.tr_core.specs.declared.calls.Waiting.{Waiting}
 use Rattle.tr_core.specs.Standing.{Stands, StandsAs, IsReady, IsTimeless, AreRoots}
 use Rattle.tr_core.specs.Steps.{Acts, Begins}
 use Rattle.tr_core.proofs.Growing.{IsNext, registers_next, thread_lives, seated_in}
-use Rattle.tr_core.proofs.Puts.{put_same, put_other}
+use Rattle.tr_dispatch.proofs.SessionLaws.{call_begins}
+use Rattle.tr_dispatch.proofs.Worlds.{put_same, put_other}
 use Rattle.tr_core.proofs.Same.{seen_in, rooted_seen, denoted_seen, rest_seen, bare_seen, windowed_seen}
 use Rattle.tr_core.proofs.Users.{user_is}
 
@@ -80,25 +81,9 @@ module _ (w : World) (m : MachineView) (calls : ℕ → Option Waiting) (k : Sta
     table = k.rooted.table;
   }
 
-  seat_is : given.base.seats thread ≡ Some (new_seat root_cred command)
-  seat_is = put_same w.base.seats thread _ ∙ ap (λ (c : Option Cred). seat_of c command) (user_is w.base.machine.bus thread k.users started)
-
   -- what its session knows as it begins
   begins_knowing : KnowsAt thread command stage.Begin Done given
-  begins_knowing = record {
-    rooted = rooted_seen w given k.rooted;
-    denoted = denoted_seen w given k.denoted;
-    seat = new_seat root_cred command;
-    sits = record {
-      lives = lives;
-      register = omega (arith, k.registers.count, k.registers.small thread started);
-      valid = valid;
-      seat_is = seat_is;
-      command_is = refl;
-      cred = refl;
-    };
-    knows = (bare_seen w given thread idle.1, rest_seen w given (k.rests quiet), record { uncommitted = refl; unasked = refl; open_reply = put_same w.verdicts thread _ });
-  }
+  begins_knowing = call_begins w thread command Done k.rooted k.denoted (k.rests quiet) idle.1 lives (omega (arith, k.registers.count, k.registers.small thread started)) valid (user_is w.base.machine.bus thread k.users started)
 
   module _ (waiting : Waiting) (begins : Begins thread command waiting) where
     ready : IsReady given thread waiting
@@ -107,7 +92,7 @@ module _ (w : World) (m : MachineView) (calls : ℕ → Option Waiting) (k : Sta
       before = stage.Begin;
       told = Done;
       knows = subst (λ c. KnowsAt thread c stage.Begin Done given) (sym begins.command_is) begins_knowing;
-      leads = subst (λ c. LeadsTo thread c stage.Begin Done waiting.session.value.stage waiting.next) (sym begins.command_is) begins.leads;
+      leads = subst (λ c. LeadsTo thread c stage.Begin Done waiting.call.value.session.stage waiting.call.value.next) (sym begins.command_is) begins.leads;
       runs = begins.runs;
       gives = begins.gives;
     }
@@ -151,28 +136,28 @@ module _ (w : World) (m : MachineView) (calls : ℕ → Option Waiting) (k : Sta
       by None is = is
       by (Some c) is = absurd (other (k.alone t thread c waiting is has))
 
-  pub valid_now : IsCommand waiting.session.value.command
+  pub valid_now : IsCommand waiting.call.value.session.command
   valid_now = ready_now.knows.sits.valid
 
   seat_now : IsSeat (w.base.seats thread)
   seat_now = seated_in (w.base.seats thread) ready_now.knows.seat ready_now.knows.sits.seat_is
 
   -- what the session gave for this step
-  gives_now : (next : SessionStep) → waiting.next ≡ next → StageGives thread waiting.session.value.command waiting.session.value.stage next w
-  gives_now next is = subst (λ s. StageGives thread waiting.session.value.command waiting.session.value.stage s w) is (ready_now.leads w ready_now.knows)
+  gives_now : (next : SessionStep) → waiting.call.value.next ≡ next → StageGives thread waiting.call.value.session.command waiting.call.value.session.stage next w
+  gives_now next is = subst (λ s. StageGives thread waiting.call.value.session.command waiting.call.value.session.stage s w) is (ready_now.leads w ready_now.knows)
 
   -- An action was done.
-  module _ (now : ℕ) (due : IsDue w.base.machine now) (mark : Mark) (action : Action) (is : waiting.next ≡ step.Act action mark) (answer : Answer) (answers : Answers w.base.machine.bus thread now action answer) where
+  module _ (now : ℕ) (due : IsDue w.base.machine now) (mark : Mark) (action : Action) (is : waiting.call.value.next ≡ step.Act action mark) (answer : Answer) (answers : Answers w.base.machine.bus thread now action answer) where
     abbrev act : Entry
     act = entry.Act thread now mark action answer
 
     abbrev acted : World
     acted = stepped w act
 
-    acts : SessionActs (KnowsAt thread waiting.session.value.command waiting.session.value.stage) thread mark action w
+    acts : SessionActs (KnowsAt thread waiting.call.value.session.command waiting.call.value.session.stage) thread mark action w
     acts = gives_now (step.Act action mark) is
 
-    goes : SessionGoes (KnowsAt thread waiting.session.value.command waiting.session.value.stage) thread now mark action w answer
+    goes : SessionGoes (KnowsAt thread waiting.call.value.session.command waiting.call.value.session.stage) thread now mark action w answer
     goes = acts.goes now answer answers
 
     act_windowed : IsWindowed acted
@@ -188,14 +173,14 @@ module _ (w : World) (m : MachineView) (calls : ℕ → Option Waiting) (k : Sta
       table = goes.knows.rooted.table;
     }
 
-    module _ (next : MachineView) (moved : next ≡ with_bus (bus_after thread now action answer m.bus)) (after : Waiting) (thread_is : after.session.value.thread ≡ waiting.session.value.thread) (command_is : after.session.value.command ≡ waiting.session.value.command) (leads : LeadsTo waiting.session.value.thread waiting.session.value.command waiting.session.value.stage answer after.session.value.stage after.next) (runs : RunsOn after.session.value.stage after.next) (gives : GivesAction after.next) where
+    module _ (next : MachineView) (moved : next ≡ with_bus (bus_after thread now action answer m.bus)) (after : Waiting) (thread_is : after.call.value.session.thread ≡ waiting.call.value.session.thread) (command_is : after.call.value.session.command ≡ waiting.call.value.session.command) (leads : LeadsTo waiting.call.value.session.thread waiting.call.value.session.command waiting.call.value.session.stage answer after.call.value.session.stage after.call.value.next) (runs : RunsOn after.call.value.session.stage after.call.value.next) (gives : GivesAction after.call.value.next) where
       ready_then : IsReady acted thread after
       ready_then = record {
         thread_is = thread_is ∙ ready_now.thread_is;
-        before = waiting.session.value.stage;
+        before = waiting.call.value.session.stage;
         told = answer;
-        knows = subst (λ c. KnowsAt thread c waiting.session.value.stage answer acted) (sym command_is) goes.knows;
-        leads = subst (λ c. LeadsTo thread c waiting.session.value.stage answer after.session.value.stage after.next) (sym command_is) (subst (λ t. LeadsTo t waiting.session.value.command waiting.session.value.stage answer after.session.value.stage after.next) ready_now.thread_is leads);
+        knows = subst (λ c. KnowsAt thread c waiting.call.value.session.stage answer acted) (sym command_is) goes.knows;
+        leads = subst (λ c. LeadsTo thread c waiting.call.value.session.stage answer after.call.value.session.stage after.call.value.next) (sym command_is) (subst (λ t. LeadsTo t waiting.call.value.session.command waiting.call.value.session.stage answer after.call.value.session.stage after.call.value.next) ready_now.thread_is leads);
         runs = runs;
         gives = gives;
       }
@@ -231,7 +216,7 @@ module _ (w : World) (m : MachineView) (calls : ℕ → Option Waiting) (k : Sta
           no_call some none = absurd (some_none after (sym some ∙ none))
 
   -- The reply was given.
-  module _ (reply : Reply) (is : waiting.next ≡ step.Over reply) where
+  module _ (reply : Reply) (is : waiting.call.value.next ≡ step.Over reply) where
     abbrev ends : Entry
     ends = entry.Reply thread reply
 

@@ -25,17 +25,17 @@ mark_of (step.Over reply) = Plain
 -- that of a thread's next step, where it has a call
 abbrev pub due_of : Option Waiting → Option Mark
 due_of None = None
-due_of (Some waiting) = Some (mark_of waiting.next)
+due_of (Some waiting) = Some (mark_of waiting.call.value.next)
 
 -- A call whose next step is ready: its session gave this step where it knew what its stage asked for, and that still stands.
 pub record IsReady (w : World) (thread : ℕ) (waiting : Waiting) : Type 0 where
-  pub thread_is : waiting.session.value.thread ≡ thread
+  pub thread_is : waiting.call.value.session.thread ≡ thread
   pub before : Stage
   pub told : Answer
-  pub knows : KnowsAt thread waiting.session.value.command before told w
-  pub leads : LeadsTo thread waiting.session.value.command before told waiting.session.value.stage waiting.next
-  pub runs : RunsOn waiting.session.value.stage waiting.next
-  pub gives : GivesAction waiting.next
+  pub knows : KnowsAt thread waiting.call.value.session.command before told w
+  pub leads : LeadsTo thread waiting.call.value.session.command before told waiting.call.value.session.stage waiting.call.value.next
+  pub runs : RunsOn waiting.call.value.session.stage waiting.call.value.next
+  pub gives : GivesAction waiting.call.value.next
 
 -- how a thread stands
 abbrev pub StandsAs : World → ℕ → Option Waiting → Type 0

@@ -24,11 +24,11 @@ use Rattle.tr_core.specs.declared.event.FaultEvent.TheVariants as event
 
 -- a call that begins, with its first step ready
 pub record Begins (thread : ℕ) (command : Command) (waiting : Waiting) : Type 0 where
-  pub thread_is : waiting.session.value.thread ≡ thread
-  pub command_is : waiting.session.value.command ≡ command
-  pub leads : LeadsTo thread command stage.Begin Done waiting.session.value.stage waiting.next
-  pub runs : RunsOn waiting.session.value.stage waiting.next
-  pub gives : GivesAction waiting.next
+  pub thread_is : waiting.call.value.session.thread ≡ thread
+  pub command_is : waiting.call.value.session.command ≡ command
+  pub leads : LeadsTo thread command stage.Begin Done waiting.call.value.session.stage waiting.call.value.next
+  pub runs : RunsOn waiting.call.value.session.stage waiting.call.value.next
+  pub gives : GivesAction waiting.call.value.next
 
 -- an action of a call was done, and its session has told the next step
 pub record Acts (session : Session) (thread now : ℕ) (mark : Mark) (action : Action) (old new : MachineView) (trace longer : List Entry) (after : Waiting) : Type 0 where
@@ -36,11 +36,11 @@ pub record Acts (session : Session) (thread now : ℕ) (mark : Mark) (action : A
   pub answers : Answers old.bus thread now action answer
   pub machine : new ≡ with_bus (bus_after thread now action answer old.bus)
   pub gains : longer ≡ trace ++ entry.Act thread now mark action answer ∷ []
-  pub thread_is : after.session.value.thread ≡ session.thread
-  pub command_is : after.session.value.command ≡ session.command
-  pub leads : SessionStepsFrom session answer after.session.value after.next
-  pub runs : RunsOn after.session.value.stage after.next
-  pub gives : IsCommand session.command → GivesAction after.next
+  pub thread_is : after.call.value.session.thread ≡ session.thread
+  pub command_is : after.call.value.session.command ≡ session.command
+  pub leads : SessionStepsFrom session answer after.call.value.session after.call.value.next
+  pub runs : RunsOn after.call.value.session.stage after.call.value.next
+  pub gives : IsCommand session.command → GivesAction after.call.value.next
 
 -- the step that was ready was made
 abbrev pub StepsBy : Session → SessionStep → ℕ → ℕ → MachineView → MachineView → List Entry → List Entry → Option Waiting → Type 0
@@ -49,7 +49,7 @@ StepsBy session (step.Over reply) thread now old new trace longer None = (new �
 StepsBy session next thread now old new trace longer after = ⊥
 
 abbrev pub Steps : Waiting → ℕ → ℕ → MachineView → MachineView → List Entry → List Entry → Option Waiting → Type 0
-Steps waiting thread now old new trace longer after = StepsBy waiting.session.value waiting.next thread now old new trace longer after
+Steps waiting thread now old new trace longer after = StepsBy waiting.call.value.session waiting.call.value.next thread now old new trace longer after
 
 -- the machine can do the event
 abbrev pub CanHappen : Bus → FaultEvent → Type 0

@@ -10,12 +10,18 @@ use std::marker::Model;
 use tr_dispatch::{Session, SessionStep};
 use tr_types::THREADS;
 
-/// A call that is under way, with its next step, which hasn't been made.
+/// A call's session, and its next step, which hasn't been made.
+#[derive(Debug, Drop)]
+pub struct Ready {
+    pub session: Session,
+    pub next: SessionStep,
+}
+
+/// A call that is under way.
 #[derive(Debug, Drop)]
 pub struct Waiting {
-    // On the heap, so that a turn moves no session.
-    pub session: Box<Session>,
-    pub next: SessionStep,
+    // On the heap, so that a turn moves neither session nor step.
+    pub call: Box<Ready>,
 }
 
 /// The call of each thread that has one.

@@ -1,7 +1,7 @@
 // A core: what a run has come to.
 ghost use Rattle.std.specs.Prelude.{◌≡◌, ◌<◌, [], length, IfOk, IsSome, OnErr, MatchResult, Ok, false, true};
 ghost use Rattle.std.specs.Result.{IsErrOf};
-ghost use Rattle.pm_words.specs.Memory.{all_durable};
+ghost use Rattle.pm_words.specs.Memory.{all_durable, present_values};
 ghost use Rattle.zo_model.specs.Commands.{IsCommand};
 ghost use Rattle.tr_core.specs.Traces.{IsTraceOf};
 ghost use Rattle.tr_core.specs.declared.limits.TheConstants.{TRACE_LIMIT};
@@ -109,6 +109,16 @@ impl Core {
         trace
     }
 
+    /// The image and the trace, at the end of a run. No word is copied.
+    pub fn into_end(self) -> (Image, Trace)
+        ensures image { self.failed ≡ false → result.0 ≡ present_values (world_at self).base.machine.bus.words }
+        ensures trace { result.1 ≡ self.trace }
+        ensures run { IsTraceOf self.opening self.trace }
+    {
+        let Core { machine, trace, .. } = self;
+        (machine.into_words().into_image(), trace)
+    }
+
     /// The words of the memory as they stand. Nothing is said of them once memory has run out.
     pub fn words(&self) -> &Words
         ensures { self.now.failed ≡ false → result.now ≡ (world_at self.now).base.machine.bus.words }
@@ -121,7 +131,7 @@ impl Core {
         ensures { result ≡ due_at self.now thread }
     {
         let waiting = self.calls.of(thread)?;
-        Some(match &waiting.next {
+        Some(match &waiting.call.next {
             SessionStep::Act(_, mark) => *mark,
             SessionStep::Over(_) => Mark::Plain,
         })
@@ -171,8 +181,8 @@ impl Core {
         ensures { TurnsAs self.old self.new thread now result }
     {
         self.check_works()?;
-        self.check_thread(thread)?;
         if self.calls.of(thread).is_none() {
+            self.check_thread(thread)?;
             return Err(CoreFault::Idle);
         }
         self.check_room()?;

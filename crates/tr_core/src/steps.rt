@@ -7,13 +7,14 @@ ghost use Rattle.tr_types.specs.declared.entry.Entry.TheVariants as entry;
 ghost use Rattle.tr_dispatch.specs.Sessions.{GivesAction, RunsOn};
 ghost use Rattle.tr_core.specs.Steps.{Begins, CanHappen, Happens, HappensBy, Steps};
 
-use crate::calls::Waiting;
+use crate::calls::{Ready, Waiting};
 use crate::event::FaultEvent;
 use bus_machine::{BusFault, Machine};
 use sqlite_items::Boxed;
 use std::alloc::{AllocError, Global};
+use std::mem;
 use tr_dispatch::{Session, SessionStep};
-use tr_types::{Command, Cred, Entry, Trace};
+use tr_types::{Command, Cred, Entry, Reply, Trace};
 
 /// Begins a call of a thread, for a user, with its first step ready.
 pub fn begin(
@@ -28,13 +29,14 @@ pub fn begin(
     ensures begins { IfOk result (Begins thread command) }
 {
     let told = command.copy(alloc)?;
-    let mut session = Box::new(alloc, Session::begin(thread, cred, command))?;
+    let mut session = Session::begin(thread, cred, command);
     let next = session.next(alloc, None, 0)?;
+    let call = Box::new(alloc, Ready { session, next })?;
     trace.push(Entry::Call {
         thread,
         command: told,
     })?;
-    Ok(Waiting { session, next })
+    Ok(Waiting { call })
 }
 
 /// Makes the step of a call that is ready, at a tick. The call goes on with its next step ready, or has ended by its reply.
@@ -44,22 +46,22 @@ pub fn step(
     trace: &mut Trace,
     thread: u16,
     now: u32,
-    waiting: Waiting,
+    mut waiting: Waiting,
 ) -> Result<Option<Waiting>, AllocError>
     requires works { machine.old.failed ≡ false }
     requires started { ThreadWasStarted machine.old.bus thread }
-    requires runs { RunsOn waiting.session.value.stage waiting.next }
-    requires gives { GivesAction waiting.next }
+    requires runs { RunsOn waiting.call.value.session.stage waiting.call.value.next }
+    requires gives { GivesAction waiting.call.value.next }
     ensures steps { IfOk result (Steps waiting thread now machine.old machine.new trace.old trace.new) }
     ensures err { OnErr result (trace.new ≡ trace.old) }
 {
-    let Waiting { mut session, next } = waiting;
-    match next {
+    let call = &mut waiting.call;
+    match mem::replace(&mut call.next, SessionStep::Over(Reply::Made)) {
         SessionStep::Act(action, mark) => {
             let Ok(answer) = machine.act(thread, now, &action) else {
                 return Err(AllocError);
             };
-            let next = session.next(alloc, Some(&answer), now)?;
+            call.next = call.session.next(alloc, Some(&answer), now)?;
             trace.push(Entry::Act {
                 thread,
                 now,
@@ -67,7 +69,7 @@ pub fn step(
                 action,
                 answer,
             })?;
-            Ok(Some(Waiting { session, next }))
+            Ok(Some(waiting))
         }
         SessionStep::Over(reply) => {
             trace.push(Entry::Reply { thread, reply })?;

@@ -45,7 +45,7 @@ use Rattle.zo_ops.specs.declared.op.Stage.{Stage as OpStage}
 use Rattle.zo_ops.specs.declared.op.Stage.TheVariants as op_stage
 use Rattle.zo_ops.specs.Knows.{Stands, BeginKnows, IsSameCall, OpKnows, StepsFrom, DrawnKnows, MayPutAll, stored}
 use Rattle.zo_ops.specs.Knows.{StageKnows as OpStageKnows}
-use Rattle.zo_plan.specs.Runs.{Due}
+use Rattle.zo_plan.specs.StoreRuns.{Due}
 use Rattle.zo_plan.specs.declared.place.Place.{Place}
 use Rattle.tr_dispatch.specs.declared.session.SessionStep.TheVariants as step
 use Rattle.tr_dispatch.specs.declared.session.Stage.{Stage}

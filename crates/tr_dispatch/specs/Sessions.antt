@@ -153,6 +153,11 @@ SessionStepsFrom old answer new step = LeadsTo old.thread old.command old.stage 
 abbrev pub answer_told : Option Answer → Answer
 answer_told answer = unwrap_or answer Done
 
+-- the call works in its coffer
+abbrev pub IsWorking : Stage → Type 0
+IsWorking (stage.Working op) = Unit {0}
+IsWorking s = ⊥
+
 -- the reply was given
 abbrev pub is_over : Stage → Bool
 is_over stage.Over = true

@@ -4,7 +4,7 @@ ghost use Rattle.std.specs.Prelude.{◌≡◌, ◌≢◌, ◌↔◌, ◌≤◌, 
 ghost use Rattle.std.specs.Option.{option_copied};
 ghost use Rattle.zo_model.specs.Commands.{IsCommand, consulted_path};
 ghost use Rattle.tr_types.specs.declared.action.Answer.{Answer};
-ghost use Rattle.tr_dispatch.specs.Sessions.{GivesAction, LeadsTo, RunsOn, SessionStepsFrom, answer_told, is_over, writes, right_of};
+ghost use Rattle.tr_dispatch.specs.Sessions.{GivesAction, IsWorking, LeadsTo, RunsOn, SessionStepsFrom, answer_told, is_over, writes, right_of};
 ghost use Rattle.tr_dispatch.specs.declared.session.Stage.TheVariants as stage;
 
 use page_rights::Pkru;
@@ -89,14 +89,17 @@ impl Session {
         ensures gives { IfOk result (SessionStepsFrom self.old (answer_told (option_copied answer.entry)) self.new) }
     {
         let answer = answer.unwrap_or(&Answer::Done);
+        // The work in the coffer is the bulk of a call, and goes on where it stands.
+        if let Stage::Working(_) = self.stage {
+            return self.work(alloc, answer, now);
+        }
         match mem::replace(&mut self.stage, Stage::Over) {
             Stage::Begin => self.find(alloc),
             Stage::Finding => self.map(alloc, answer),
             Stage::Mapping => self.open(alloc, answer),
-            Stage::Working(op) => self.work(alloc, op, answer, now),
             Stage::Closing(reply) => self.unmap(alloc, reply),
             Stage::Ending(reply) => Ok(SessionStep::Over(reply)),
-            Stage::Over => unreachable!(),
+            Stage::Working(_) | Stage::Over => unreachable!(),
         }
     }
 
@@ -152,23 +155,18 @@ impl Session {
     }
 
     // The call goes on; at its end the window is closed.
-    fn work(
-        &mut self,
-        alloc: Global,
-        mut op: OpRun,
-        answer: &Answer,
-        now: u32,
-    ) -> Result<SessionStep, AllocError>
+    fn work(&mut self, alloc: Global, answer: &Answer, now: u32) -> Result<SessionStep, AllocError>
+        requires works { IsWorking self.old.stage }
         ensures same { (self.new.thread ≡ self.old.thread) × (self.new.command ≡ self.old.command) }
         ensures runs { IfOk result (RunsOn self.new.stage) }
         ensures built { IfOk result GivesAction }
-        ensures gives { IfOk result (LeadsTo self.old.thread self.old.command (stage.Working op) answer.now self.new.stage) }
+        ensures gives { IfOk result (LeadsTo self.old.thread self.old.command self.old.stage answer.now self.new.stage) }
     {
+        let Stage::Working(op) = &mut self.stage else {
+            unreachable!()
+        };
         match op.next(alloc, answer, now)? {
-            OpStep::Act(action, mark) => {
-                self.stage = Stage::Working(op);
-                Ok(SessionStep::Act(action, mark))
-            }
+            OpStep::Act(action, mark) => Ok(SessionStep::Act(action, mark)),
             OpStep::Over(reply) => {
                 self.stage = Stage::Closing(reply);
                 Ok(SessionStep::Act(Action::Pkru(Pkru::closed().0), Mark::Close))

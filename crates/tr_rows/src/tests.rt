@@ -29,8 +29,13 @@ struct Ran {
 
 /// Runs a script, with room for so many bytes of replies and for an image of at most 1,024 pages.
 fn run_text(alloc: Global, text: &[u8], room: usize) -> Result<Ran, NoMemory> {
+    run_word(alloc, "run", text, room)
+}
+
+/// Does the same by a word of the command line.
+fn run_word(alloc: Global, word: &str, text: &[u8], room: usize) -> Result<Ran, NoMemory> {
     let mut words = Vec::new(alloc);
-    words.push(String::from_str(alloc, "run")?)?;
+    words.push(String::from_str(alloc, word)?)?;
     let mut image = MemSource::new(Vec::new(alloc), Vec::new(alloc));
     let mut script = MemSource::new(Vec::from_slice(alloc, text)?, Vec::new(alloc));
     let mut out = MemSink::new(alloc, room, Vec::new(alloc))?;

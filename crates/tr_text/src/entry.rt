@@ -224,6 +224,10 @@ fn append_with_answer(text: &mut Vec<u8>, action: &Action, answer: &Answer) -> R
     ensures kept { take (length text.old.items) text.new.items ≡ text.old.items }
 {
     append_action(text, action)?;
+    // What most actions are answered goes in one piece.
+    if let Answer::Done = answer {
+        return text.extend_from_slice(b" = done\n");
+    }
     text.extend_from_slice(b" =")?;
     append_answer(text, answer)?;
     text.push(b'\n')?;

@@ -1,5 +1,5 @@
 -- How a run ends, from how its parts ended.
-use Rattle.std.proofs.Common.{◌≡◌, ℕ, ◌+◌, List, [], ◌∷◌, length, get_or, refl, sym, ap, subst, ◌∙◌, arith, inl, inr, append-nil, Option, Result, ◌++◌, Ok, Err, Bool, IsTrue, ◌↔◌, eqb}
+use Rattle.std.proofs.Common.{◌≡◌, ℕ, ◌+◌, List, [], ◌∷◌, length, get_or, refl, sym, ap, subst, ◌∙◌, arith, inl, inr, Option, Result, ◌++◌, Ok, Err, Bool, IsTrue, ◌↔◌, eqb}
 use Rattle.std.specs.Cmp.Lexicographic.{pointwise}
 use Rattle.std.proofs.lemmas.Slice.Eq.{slice_eq-Decides}
 use Rattle.std.proofs.lemmas.Bool.Decides.{Decides-eqb}
@@ -40,11 +40,6 @@ ends_saved_at Done old new out out' saved saved' f f' s s' none run ended goes i
   out = told_all old new out out' f f' none goes;
   saved = is;
 }
-ends_saved_at NoMemory old new out out' saved saved' f f' s s' none run ended goes is = record {
-  run = run;
-  out = (texts old.detail new.core.trace, [], sym (append-nil (texts old.detail new.core.trace)), told_all old new out out' f f' none goes);
-  saved = is;
-}
 ends_saved_at WriteFault old new out out' saved saved' f f' s s' none run ended goes is = inr (record {
   run = run;
   ended = ended;
@@ -52,6 +47,7 @@ ends_saved_at WriteFault old new out out' saved saved' f f' s s' none run ended 
   out = told_all old new out out' f f' none goes;
   saved = is.0;
 })
+ends_saved_at NoMemory old new out out' saved saved' f f' s s' none run ended goes is = absurd is
 ends_saved_at Full old new out out' saved saved' f f' s s' none run ended goes is = absurd is
 ends_saved_at Usage old new out out' saved saved' f f' s s' none run ended goes is = absurd is
 ends_saved_at (BadScript line column) old new out out' saved saved' f f' s s' none run ended goes is = absurd is
@@ -64,6 +60,12 @@ ends_saved status old new out out' saved saved' f f' s s' none run ended goes is
     (subst (λ (l : List Line). IsRun l new.core.trace) goes.lines run)
     (subst (λ (l : List Line). IsAtEnd (place_after l new.core.trace)) goes.lines ended) goes
     (subst (λ (l : List Line). IsSaved status saved saved' s s' (image_bytes (last_words l new.core.trace))) goes.lines is)
+
+-- the same, where this is the image that was saved
+pub ends_saved_image : (status : Status) (old new : RunnerView) (image : List ℕ) (out out' saved saved' : Option (List ℕ)) (f f' s s' : ℕ) → old.core.trace ≡ [] → IsRun new.lines new.core.trace → IsAtEnd (place_of new) → Goes {T = Unit {0}} old new out out' f f' (Ok tt)
+    → image ≡ last_words new.lines new.core.trace → IsSaved status saved saved' s s' (image_bytes image) → RunEnds old.detail (sinks_of out f saved s) (sinks_of out' f' saved' s') old.lines status new.core.trace
+ends_saved_image status old new image out out' saved saved' f f' s s' none run ended goes last is =
+    ends_saved status old new out out' saved saved' f f' s s' none run ended goes (subst (λ (i : List ℕ). IsSaved status saved saved' s s' (image_bytes i)) last is)
 
 -- the run stopped before its end
 ends_stopped_at : (why : Stop) (old new : RunnerView) (out out' saved : Option (List ℕ)) (f f' s : ℕ) → old.core.trace ≡ [] → IsRun old.lines new.core.trace → Goes {T = Unit {0}} old new out out' f f' (Err why)

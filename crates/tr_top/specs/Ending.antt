@@ -31,6 +31,5 @@ IsRefusal left rest before after status = ⊥
 -- what a sink took of the bytes of an image
 abbrev pub IsSaved : Status → Option (List ℕ) → Option (List ℕ) → ℕ → ℕ → List ℕ → Type 0
 IsSaved Done taken now before after bytes = Appends taken now bytes
-IsSaved NoMemory taken now before after bytes = (now ≡ taken) × (after ≡ before)
 IsSaved WriteFault taken now before after bytes = AppendsFront taken now bytes × Rose before after
 IsSaved status taken now before after bytes = ⊥

@@ -33,6 +33,7 @@ pub record Outside : Type 0 where
   pub script_faults : ℕ
   pub sinks : Sinks
 
+-- what `out` and `saved` have taken, and their faults
 abbrev pub sinks_of : Option (List ℕ) → ℕ → Option (List ℕ) → ℕ → Sinks
 sinks_of out out_faults saved saved_faults = record { out_written = out; out_faults = out_faults; saved_written = saved; saved_faults = saved_faults }
 

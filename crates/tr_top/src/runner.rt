@@ -183,12 +183,15 @@ impl<'a> Runner<'a> {
         tell_last(&self.core, &mut self.teller, out)
     }
 
-    /// The words as they are now.
-    pub fn image(&self) -> Result<Image, AllocError>
-        requires { self.now.core.failed ≡ false }
-        ensures { IfOk result (λ image. image ≡ last_words self.now.lines self.now.core.trace) }
+    /// The image as it is now, and the trace of the run.
+    pub fn into_end(self) -> (Image, Trace)
+        requires { self.core.failed ≡ false }
+        ensures image { result.0 ≡ last_words self.entry.lines self.entry.core.trace }
+        ensures trace { result.1 ≡ self.entry.core.trace }
+        ensures run { IsRun self.entry.lines self.entry.core.trace }
     {
-        self.core.words().image()
+        let Runner { core, .. } = self;
+        core.into_end()
     }
 
     /// The trace of the run.

@@ -4,7 +4,7 @@ ghost use Rattle.std.specs.String.{string_bytes};
 ghost use Rattle.tr_types.specs.Fold.{Each};
 ghost use Rattle.tr_outside.specs.ImageBytes.{image_bytes};
 ghost use Rattle.tr_script.specs.Grammar.{MayStand, declared, nothing_declared};
-ghost use Rattle.tr_top.specs.Run.{last_words, pages_made};
+ghost use Rattle.tr_top.specs.Run.{pages_made};
 ghost use Rattle.tr_top.specs.declared.teller.Detail.{Detail};
 ghost use Rattle.tr_top.specs.Top.{IsAnswered, IsForm, ReadsScript, RunEnds, outside_of, sinks_of};
 ghost use Rattle.tr_top.specs.Completes.{Completes};
@@ -13,6 +13,7 @@ ghost use Rattle.tr_top.specs.Ending.{IsRefusal, IsSaved, stop_status};
 use crate::runner::Runner;
 use crate::stop::Stop;
 use crate::teller::Detail;
+use pm_words::Image;
 use std::alloc::Global;
 use tr_outside::{ReadError, Sink, Source, read_up_to, write_image};
 use tr_script::{Line, Script, ScriptFault, Status, read_script};
@@ -137,13 +138,18 @@ fn run<O: Sink, D: Sink>(
     let Ok(mut runner) = Runner::begin(alloc, script, detail, pages_made(script)) else {
         return nothing_begun(alloc, Status::NoMemory);
     };
-    let status = match runner.run(out) {
-        Ok(()) => save(&runner, saved),
-        Err(stop) => status_of(stop),
-    };
-    Outcome {
-        status,
-        trace: runner.into_trace(),
+    match runner.run(out) {
+        Ok(()) => {
+            let (image, trace) = runner.into_end();
+            Outcome {
+                status: save(&image, saved),
+                trace,
+            }
+        }
+        Err(stop) => Outcome {
+            status: status_of(stop),
+            trace: runner.into_trace(),
+        },
     }
 }
 
@@ -157,17 +163,12 @@ fn status_of(stop: Stop) -> Status
     }
 }
 
-// Saves the words as they are at the end of a run.
-fn save<D: Sink>(runner: &Runner, saved: &mut D) -> Status
-    requires { runner.now.core.failed ≡ false }
-    ensures saved { IsSaved result (D.written saved.old) (D.written saved.new) (D.faults saved.old) (D.faults saved.new)
-        (image_bytes (last_words runner.now.lines runner.now.core.trace)) }
+// Saves the image at the end of a run.
+fn save<D: Sink>(image: &Image, saved: &mut D) -> Status
+    ensures saved { IsSaved result (D.written saved.old) (D.written saved.new) (D.faults saved.old) (D.faults saved.new) (image_bytes image.now) }
     ensures later { D.faults saved.old ≤ D.faults saved.new }
 {
-    let Ok(image) = runner.image() else {
-        return Status::NoMemory;
-    };
-    match write_image(saved, &image) {
+    match write_image(saved, image) {
         Ok(()) => Status::Done,
         Err(_) => Status::WriteFault,
     }

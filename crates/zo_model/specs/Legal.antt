@@ -126,9 +126,13 @@ pub record WasTried (seat : Seat) (Was : KernAnswer → Type 0) : Type 0 where
   pub among : Contains seat.tried map
   pub was : Was map.answer
 
--- replies that only their cause allows
+-- replies that only their cause allows; those of leases and of names have none yet
 abbrev pub HasReason : Seat → Reply → Type 0
 HasReason seat (reply.NoSpace need free) = ⊥
+HasReason seat (reply.Busy addr word now) = ⊥
+HasReason seat (reply.Expired addr word) = ⊥
+HasReason seat (reply.Again times) = ⊥
+HasReason seat reply.TooMany = ⊥
 HasReason seat (reply.InUse thread) = WasTried seat (IsInUse thread)
 HasReason seat reply.NoKey = WasTried seat IsNoKey
 HasReason seat reply.Quarantined = WasTried seat IsShutOff
@@ -159,7 +163,7 @@ IsDeniedRight coffers seat given = (right : Right) (path : List ℕ) → answer 
 abbrev pub MayTell : List Coffer → Seat → Verdict → Told → Reply → Type 0
 MayTell coffers seat Unjudged told given = Unit {0}
 MayTell coffers seat (Fixed reply) told given = given ≡ reply
-MayTell coffers seat NoPoint (Refused asked free drained) given = ⊥
+MayTell coffers seat NoPoint (Refused asked free drained) given = IsJudged coffers seat → ⊥
 MayTell coffers seat NoPoint told given = IsJudged coffers seat → IsTold coffers seat.cred seat.command given
 
 -- the reply is right; `verdict` is what is settled of it

@@ -25,7 +25,7 @@ use Rattle.zo_plan.specs.declared.plan.Operand.TheVariants.{Known, Drawn}
 use Rattle.zo_plan.specs.declared.plan.Plan.{Plan}
 use Rattle.zo_plan.specs.declared.plan.Put.{Put}
 use Rattle.zo_plan.specs.Operands.{real, pair_of, pairs_of}
-use Rattle.zo_plan.specs.Runs.{Due, Running, due, stores_of}
+use Rattle.zo_plan.specs.StoreRuns.{Due, Running, due, stores_of}
 use Rattle.zo_hash_dir.specs.Links.{put as put_of, link_puts, linked_entry}
 use Rattle.zo_hash_dir.specs.Scene.{IsPageOf, IsNoneOr}
 use Rattle.zo_laws.specs.Linking.{IsPlaceFor, prepares_of}

@@ -13,8 +13,8 @@ use Rattle.tr_types.specs.declared.kernel_call.Mapped.{Mapped}
 use Rattle.zo_model.specs.Legal.{Verdict, HasCause, MayReply, MayTell}
 use Rattle.zo_model.specs.Seats.{Told, is_commit}
 use Rattle.zo_model.specs.Steps.{Scene, Leaves, Goes, ActGives, OverGives, MayMark}
-use Rattle.zo_plan.specs.Runs.{Due, Running, damaged_at, step_at, run_at}
-use Rattle.zo_plan.specs.declared.run.Step.TheVariants as step
+use Rattle.zo_plan.specs.StoreRuns.{Due, Running, damaged_at, step_at, run_at}
+use Rattle.zo_plan.specs.declared.stores.StoreStep.TheVariants as step
 use Rattle.zo_ops.specs.declared.op.Stage.TheVariants as stage
 use Rattle.zo_ops.specs.Acts.{IsAction}
 use Rattle.zo_ops.specs.Knows.{Stands, StageKnows, MayPut, MayPutAll, IsMade, mark_of, stored}

@@ -21,7 +21,7 @@ use Rattle.zo_model.specs.Seats.{NotAsked, Given, Refused, seat_after, is_commit
 use Rattle.zo_model.specs.Steps.{Scene, IsCofferWord, AreGiven, HasDrawn, IsDenoted, ActGives, OverGives, MayStore, put, pool_of}
 use Rattle.zo_model.specs.Tree.{Member, FileOf, node_at}
 use Rattle.zo_plan.specs.declared.place.Place.{Place}
-use Rattle.zo_plan.specs.Runs.{Due}
+use Rattle.zo_plan.specs.StoreRuns.{Due}
 use Rattle.zo_hash_dir.specs.declared.list.ListRun.{ListRun}
 use Rattle.zo_hash_dir.specs.declared.lookup.Lookup.{Lookup}
 use Rattle.zo_hash_dir.specs.declared.lookup.Purpose.{Purpose}
@@ -196,6 +196,11 @@ pub record MayPut (d : Due) (s : Scene) : Type 0 where
 abbrev pub MayPutAll : List Due → Scene → Type 0
 MayPutAll [] s = IsMade s
 MayPutAll (d ∷ left) s = MayPut d s × MayPutAll left (stored d s)
+
+-- the name is looked for
+abbrev pub IsLooking : Stage → Type 0
+IsLooking (stage.Looking look) = Unit {0}
+IsLooking s = ⊥
 
 -- what a call knows that is at this stage, with the answer that it gets next
 abbrev pub StageKnows : Mapped → Command → Stage → Answer → Scene → Type 0

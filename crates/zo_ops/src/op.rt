@@ -8,7 +8,7 @@ ghost use Rattle.zo_hash_dir.specs.Addresses.{IsTarget};
 ghost use Rattle.zo_hash_dir.specs.Looking.{Knows as LookKnows};
 ghost use Rattle.zo_hash_dir.specs.Scene.{Scene as Seen, IsShown, CanMake};
 ghost use Rattle.zo_ops.specs.Acts.{IsStep};
-ghost use Rattle.zo_ops.specs.Knows.{BeginKnows, FoundKnows, MissingKnows, PoolKnows, Drew, StageKnows, OpKnows, StepsFrom, After, IsSameCall, BeginsAt, name_of as name_of_command, purpose_of};
+ghost use Rattle.zo_ops.specs.Knows.{BeginKnows, FoundKnows, MissingKnows, PoolKnows, Drew, StageKnows, OpKnows, StepsFrom, After, IsLooking, IsSameCall, BeginsAt, name_of as name_of_command, purpose_of};
 ghost use Rattle.zo_ops.specs.declared.op.Stage.TheVariants as stage;
 
 use sqlite_items::Boxed;
@@ -17,7 +17,7 @@ use std::mem;
 use tr_types::{Action, Answer, Command, Cred, Kcall, KernAnswer, Kind, Mapped, Mark, Reply};
 use zo_hash_dir::{ListRun, ListStep, LookStep, Lookup, Name, plan_link};
 use zo_layout::{KIND_FILE, file_map, page_at, page_kind, pool_head};
-use zo_plan::{Addr, Link, Operand, Place, PlanRun, Put, Step};
+use zo_plan::{Addr, Link, Operand, Place, Put, StoreRun, StoreStep};
 
 /// The root coffer's mode: octal 666. Its uid and gid are 0.
 const ROOT_MODE: u16 = 0o666;
@@ -54,7 +54,7 @@ enum Stage {
     /// The pages that the kernel is asked for.
     Drawing(Place),
     /// A store of the plan.
-    Storing(PlanRun),
+    Storing(StoreRun),
     /// Nothing: the call is over, or its coffer has no root page.
     Over,
 }
@@ -89,14 +89,18 @@ impl OpRun {
         ensures acts { IfOk result (IsStep self.old.mapped) }
         ensures gives { IfOk result (StepsFrom self.old answer.now self.new) }
     {
+        // A look-up is the bulk of a call, and goes on where it stands.
+        if let Stage::Looking(_) = self.stage {
+            return Ok(self.look(answer));
+        }
         match mem::replace(&mut self.stage, Stage::Over) {
-            Stage::Looking(look) => Ok(self.look(look, answer)),
             Stage::Counting(count) => Ok(self.count(count, answer)),
             Stage::Kind { file } => Ok(self.kind(file, answer)),
             Stage::Map { file } => Ok(self.map(file, answer)),
             Stage::Pool(place) => self.pool(alloc, place, answer),
             Stage::Drawing(place) => self.draw(alloc, place, answer, now),
             Stage::Storing(run) => Ok(self.store(run, answer, now)),
+            Stage::Looking(_) => unreachable!(),
             Stage::Over => Ok(damaged(page_at(self.mapped.control))),
         }
     }
@@ -125,13 +129,18 @@ impl OpRun {
         }
     }
 
-    fn look(&mut self, mut look: Lookup, answer: &Answer) -> OpStep
+    // A word of the directory is known, in which the name is looked for.
+    fn look(&mut self, answer: &Answer) -> OpStep
+        requires looking { IsLooking self.old.stage }
         ensures call { IsSameCall self.old self.new }
         ensures acts { IsStep self.old.mapped result }
-        ensures gives { After self.old (λ m c. StageKnows m c (stage.Looking look) answer.now) self.new result }
+        ensures gives { After self.old (λ m c. StageKnows m c self.old.stage answer.now) self.new result }
     {
+        let Stage::Looking(look) = &mut self.stage else {
+            unreachable!()
+        };
         match look.next(answer) {
-            LookStep::Load(addr) => self.load(addr, Stage::Looking(look)),
+            LookStep::Load(addr) => OpStep::Act(Action::Load(addr), Mark::Plain),
             LookStep::Found { target, .. } => self.found(target),
             LookStep::Missing { place } => self.missing(place),
             LookStep::Damaged(addr) => damaged(addr),
@@ -294,23 +303,23 @@ impl OpRun {
         };
         let link = plan_link(alloc, dir, &place, name_of(&self.command), file)?;
         let plan = link.prepared_by(kind, 1)?;
-        let run = PlanRun::begin(plan, Vec::from_slice(alloc, pages)?);
+        let run = StoreRun::begin(plan, Vec::from_slice(alloc, pages)?);
         Ok(self.store(run, &Answer::Done, now))
     }
 
     // The last store of the plan was answered.
-    fn store(&mut self, mut run: PlanRun, answer: &Answer, now: u32) -> OpStep
+    fn store(&mut self, mut run: StoreRun, answer: &Answer, now: u32) -> OpStep
         ensures call { IsSameCall self.old self.new }
         ensures acts { IsStep self.old.mapped result }
         ensures gives { After self.old (λ m c. StageKnows m c (stage.Storing run) answer.now) self.new result }
     {
         match run.next(answer, now) {
-            Step::Act(action, mark) => {
+            StoreStep::Act(action, mark) => {
                 self.stage = Stage::Storing(run);
                 OpStep::Act(action, mark)
             }
-            Step::Done => OpStep::Over(Reply::Made),
-            Step::Damaged(addr) => damaged(addr),
+            StoreStep::Done => OpStep::Over(Reply::Made),
+            StoreStep::Damaged(addr) => damaged(addr),
         }
     }
 }

@@ -1,7 +1,7 @@
 use Rattle.std.proofs.Common.{◌≤◌, ℕ, ◌∷◌, List, length, sym, ap, subst, ◌∙◌}
 use Rattle.zo_plan.specs.declared.plan.Operand.TheVariants.{Known, Drawn}
 use Rattle.zo_plan.specs.declared.plan.Put.{Put}
-use Rattle.zo_plan.specs.Runs.{Running, stores_of}
+use Rattle.zo_plan.specs.StoreRuns.{Running, stores_of}
 use Rattle.zo_hash_dir.specs.Links.{link_puts}
 use Rattle.zo_ops.proofs.FillLaws.{is_name, fill_knows}
 use Rattle.zo_ops.proofs.op.OpRun.fill_in.Goals as goal
