@@ -56,6 +56,7 @@ pub fn step(
     ensures err { OnErr result (trace.new ≡ trace.old) }
 {
     let call = &mut waiting.call;
+    // The step is taken out; nothing reads what stands there until the next one does.
     match mem::replace(&mut call.next, SessionStep::Over(Reply::Made)) {
         SessionStep::Act(action, mark) => {
             let Ok(answer) = machine.act(thread, now, &action) else {

@@ -12,5 +12,5 @@ pub mod Growing
 pub mod NameCounts
 -- a coffer's directories as a look-up finds them
 pub mod Scenes
--- what a run of a plan leaves of the words that it prepares, and of its commit word
+-- what a run of a plan leaves of words of the memory, with other threads beside it
 pub mod RunWords

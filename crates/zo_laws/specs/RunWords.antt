@@ -71,7 +71,7 @@ pub record DurableLaw : Type 0 where
   pub prepared : (thread addr seen : ℕ) (drawn : List ℕ) (leases : List Held) (plan : Plan) (put : Put) (before after : List Word)
       → Contains plan.prepares.items put → addr ≡ real drawn put.at → All (IsAside addr) leases
       → Goes thread addr seen (before_commit drawn leases plan) before after → IsDurable addr after
-  -- the commit word is durable when what follows the commit begins, and from then on where no store behind the commit goes there
+  -- the commit word is durable once the flush and the fence behind the commit are made, and stays so where no later store goes there
   pub committed : (thread seen count : ℕ) (drawn : List ℕ) (leases : List Held) (plan : Plan) (before after : List Word)
       → 2 ≤ count → All (λ put. real drawn put.at / 8 ≢ real drawn plan.commit.at / 8) plan.after.items
       → Goes thread (real drawn plan.commit.at) seen (take count (from_settling drawn leases plan)) before after → IsDurable (real drawn plan.commit.at) after

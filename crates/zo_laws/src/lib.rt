@@ -1,5 +1,5 @@
-//! Laws of what the words of a directory and of a coffer denote. Each function is empty, and its clause is a law of the
-//! definitions alone.
+//! Laws of what the words of a directory and of a coffer denote, and of what a run of a plan leaves in the memory. Each
+//! function is empty, and its clause is a law of the definitions alone.
 #![tactic(auto)]
 
 mod links;

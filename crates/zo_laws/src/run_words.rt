@@ -6,8 +6,8 @@ pub fn others_law()
     ensures { OthersLaw }
 {}
 
-/// Whatever other threads do but for stores to the word: before the commit is given, each word that a run has prepared is
-/// durable, and before anything that follows the commit is given, the commit word is.
+/// Whatever other threads do but for stores to the word: each word that a run has prepared is durable when the commit is
+/// given, and the commit word is durable once the flush and the fence behind the commit are made.
 pub fn durable_law()
     ensures { DurableLaw }
 {}
@@ -17,7 +17,7 @@ pub fn note_law()
     ensures { NoteLaw }
 {}
 
-/// Before the commit is given, each lease's counter is raised by 1.
+/// Before the commit is given, each lease's counter is raised by 1, where nothing else of the run goes there.
 pub fn counter_law()
     ensures { CounterLaw }
 {}
