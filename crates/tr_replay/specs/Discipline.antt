@@ -1,6 +1,7 @@
 -- What our calls keep beyond what is legal: whom they look for and map, when they ask for pages, which leases they take and how, how
 -- they look at them before they store, and what they do after their commit. A trace that others made is judged by legality alone.
-use Rattle.std.specs.Prelude.{◌≡◌, ℕ, ◌/◌, ◌≤◌, List, [], ◌∷◌, length, take, Contains, Bool, true, false, not, Option, Some, None, if◌then◌else◌, ◌==◌, ◌&&◌, ◌||◌}
+use Rattle.tr_model.specs.Worlds.{IsCommitDone}
+use Rattle.std.specs.Prelude.{◌≡◌, ℕ, ◌/◌, ◌≤◌, List, [], ◌∷◌, length, take, Contains, Bool, true, false, not, Option, Some, None, if◌then◌else◌, ◌==◌, ◌&&◌, ◌||◌, ◌⊎◌}
 use Rattle.std.specs.List.{list_any}
 use Rattle.zo_layout.specs.Layout.{page_at, kernel_pages, pool_lease, dir_lease}
 use Rattle.kern_model.specs.KernelView.{pages_of}
@@ -21,9 +22,9 @@ use Rattle.zo_model.specs.Commands.{sought_path, right_needed}
 use Rattle.zo_model.specs.Legal.{pages_needed}
 use Rattle.zo_model.specs.Seats.{LastFind, Lease, Tried}
 use Rattle.tr_replay.specs.Causes.{MayFallShort}
-use Rattle.tr_replay.specs.Seats.{Turn, Seat, NotAsked, control_in, is_drained, pool_number}
+use Rattle.tr_replay.specs.Seats.{Turn, Seat, NotAsked, control_in, is_drained, pool_number, is_lease_of}
 use Rattle.tr_replay.specs.Verdicts.{Settled}
-use Rattle.tr_replay.specs.Worlds.{World, replay_of}
+use Rattle.tr_replay.specs.Worlds.{World, replay_of, is_lease}
 
 -- A call asks for pages once, no more than its command may need, after its pool showed none, and only where its last look showed that
 -- the change would come about.
@@ -86,18 +87,20 @@ last_tick_of [] = 0
 last_tick_of (t ∷ earlier) = t.now
 
 pub record MayTake (thread now : ℕ) (seat : Seat) (addr old new : ℕ) : Type 0 where
+  pub unheld : is_lease_of seat.held addr ≡ false
   pub lease : may_take thread seat addr ≡ true
   pub own : new ≡ own_word thread (last_tick_of seat.turns)
   pub could : is_open old now ≡ true
 
--- It gives back a lease that it holds, by putting 0.
-pub record MayGiveBack (seat : Seat) (addr old new : ℕ) : Type 0 where
+-- It gives back a lease that it holds, by putting 0; none but a pool's once it was shown that one was taken away.
+pub record MayGiveBack (thread : ℕ) (seat : Seat) (addr old new : ℕ) : Type 0 where
+  pub kept : (seat.taken ≡ []) ⊎ (is_pool_lease thread (control_in seat.tried) addr ≡ true)
   pub free : new ≡ 0
   pub held : Contains seat.held (record { addr = addr; own = old })
 
 abbrev pub MayExchange : Mark → ℕ → ℕ → Seat → ℕ → ℕ → ℕ → Type 0
 MayExchange mark.Take thread now seat addr old new = MayTake thread now seat addr old new
-MayExchange m thread now seat addr old new = MayGiveBack seat addr old new
+MayExchange m thread now seat addr old new = MayGiveBack thread seat addr old new
 
 -- Directly before a store outside the pages that it drew, a call looks at all leases that it holds, and each shows its own word,
 -- unexpired.
@@ -115,9 +118,10 @@ AreLooked held turns = (lease : Lease) → Contains held lease → list_any (is_
 abbrev pub is_drawn : Seat → ℕ → Bool
 is_drawn seat addr = list_any (λ page. page == addr / 4096) seat.drawn
 
-pub record MayStore (kernel_end : ℕ) (seat : Seat) (addr : ℕ) : Type 0 where
-  -- no call stores in the kernel's pages
+pub record MayStore (is_lease : ℕ → Bool) (kernel_end : ℕ) (seat : Seat) (addr : ℕ) : Type 0 where
+  -- no call stores in the kernel's pages, nor into a lease, which only an exchange changes
   pub outside : kernel_end ≤ addr
+  pub leaseless : is_lease addr ≡ false
   pub looked : is_drawn seat addr ≡ false → AreLooked seat.held seat.turns
 
 -- What a call owes that has taken an expired lease other than a pool's, before it loads the tree: it loads the word that names the
@@ -150,21 +154,22 @@ Pays (ToFlush addr) action = action ≡ Flush addr
 Pays ToFence action = action ≡ Fence
 
 -- the action keeps the discipline
-abbrev pub Keeps : ℕ → ℕ → ℕ → Mark → Seat → Settled → Action → Type 0
-Keeps kernel_end thread now m seat s (Kernel call) = MayAskAt seat.committed thread seat s call
-Keeps kernel_end thread now m seat s (Store addr word) = MayStore kernel_end seat addr
-Keeps kernel_end thread now m seat s (Cas addr old new) = MayExchange m thread now seat addr old new
-Keeps kernel_end thread now m seat s action = Unit {0}
+abbrev pub Keeps : (ℕ → Bool) → ℕ → ℕ → ℕ → Mark → Seat → Settled → Action → Type 0
+Keeps is_lease kernel_end thread now m seat s (Kernel call) = MayAskAt seat.committed thread seat s call
+Keeps is_lease kernel_end thread now m seat s (Store addr word) = MayStore is_lease kernel_end seat addr
+Keeps is_lease kernel_end thread now m seat s (Cas addr old new) = MayExchange m thread now seat addr old new
+Keeps is_lease kernel_end thread now m seat s action = Unit {0}
 
--- once a lease was shown to be taken away before the commit, no lease but a pool's is given back; the store of a commit is never refused
-pub record KeepsAll (kernel_end thread now : ℕ) (m : Mark) (answer : Answer) (seat : Seat) (s : Settled) (action : Action) : Type 0 where
-  pub keeps : Keeps kernel_end thread now m seat s action
+-- no commit is refused
+pub record KeepsAll (is_lease : ℕ → Bool) (kernel_end thread now : ℕ) (m : Mark) (answer : Answer) (seat : Seat) (s : Settled) (action : Action) : Type 0 where
+  pub keeps : Keeps is_lease kernel_end thread now m seat s action
+  pub done : IsCommitDone m answer
   pub pays : Pays (owing_in (is_pool_lease thread (control_in seat.tried)) seat.turns) action
 
 abbrev pub KeepsAt : World → ℕ → ℕ → Mark → Action → Answer → Option Seat → Type 0
 KeepsAt w thread now m action answer None = Unit {0}
 KeepsAt w thread now m action answer (Some seat) =
-    KeepsAll (page_at (kernel_pages (pages_of w.base.machine.bus.words))) thread now m answer seat ((replay_of w).settled thread) action
+    KeepsAll (is_lease w.base) (page_at (kernel_pages (pages_of w.base.machine.bus.words))) thread now m answer seat ((replay_of w).settled thread) action
 
 abbrev pub IsDisciplined : World → Entry → Type 0
 IsDisciplined w (entry.Act thread now m action answer) = KeepsAt w thread now m action answer (w.base.seats thread)

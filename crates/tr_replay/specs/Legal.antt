@@ -21,7 +21,7 @@ use Rattle.tr_model.specs.Worlds.{coffers_of}
 use Rattle.tr_replay.specs.Causes.{HasCause, is_own_reply}
 use Rattle.tr_replay.specs.Seats.{Seat, Told, Refused}
 use Rattle.tr_replay.specs.Verdicts.{Settled}
-use Rattle.tr_replay.specs.Worlds.{World, coffers_by, never, table_after}
+use Rattle.tr_replay.specs.Worlds.{World, coffers_by, is_lease, never, table_after}
 
 -- the machine allows the entry
 abbrev pub MayCome : World → Entry → Type 0
@@ -48,6 +48,10 @@ IsOwed (names ∷ owed) path = path ≡ path_text names
 abbrev pub IsToldLoss : World → Entry → Type 0
 IsToldLoss w (entry.Lost path) = IsOwed w.base.owed path
 IsToldLoss w e = w.base.owed ≡ []
+
+-- where a whole run ends, no such note is due
+abbrev pub IsToldOut : World → Type 0
+IsToldOut w = w.base.owed ≡ []
 
 -- A call is judged where the coffer that its command consults is not lost.
 abbrev pub IsJudged : List Coffer → Command → Type 0
@@ -119,11 +123,13 @@ is_again given = false
 pub record KeepsDenial (seat : Seat) (s : Settled) (given : Reply) : Type 0 where
   pub told : is_last_denied seat.found seat.tried ≡ true → s.refused ≡ Fixed given
   pub barred : s.barred ≡ true → is_again given ≡ false → is_denied_reply given ≡ true
+  -- it is told only by who was refused the right, whatever is lost
+  pub shown : is_denied_reply given ≡ true → s.refused ≡ Fixed given
 
 -- the reply is right
-pub record MayReply (coffers : List Coffer) (seat : Seat) (s : Settled) (given : Reply) : Type 0 where
+pub record MayReply (is_lease : ℕ → Bool) (coffers : List Coffer) (seat : Seat) (s : Settled) (given : Reply) : Type 0 where
   pub denials : KeepsDenial seat s given
-  pub cause : HasCause coffers seat seat.told s.short given
+  pub cause : HasCause is_lease coffers seat seat.told s.short given
   pub settled : MayTell coffers seat.command s seat.committed given
 
 -- The kernel calls that our commands give, however the kernel answers. A trace has no other: those that make or end coffers,
@@ -149,7 +155,7 @@ IsLegalAct drop w e action false seat = Unit {0}
 
 abbrev pub IsLegalReply : (ℕ → Bool) → World → ℕ → Option Seat → Reply → Type 0
 IsLegalReply drop w thread None given = Unit {0}
-IsLegalReply drop w thread (Some seat) given = MayReply (coffers_by drop w) seat ((w.replays drop).settled thread) given
+IsLegalReply drop w thread (Some seat) given = MayReply (is_lease w.base) (coffers_by drop w) seat ((w.replays drop).settled thread) given
 
 -- the entry is legal in what users would see without these changes
 abbrev pub IsLegalBy : (ℕ → Bool) → World → Entry → Type 0

@@ -12,5 +12,7 @@ pub mod Legal
 pub mod Marks
 -- what our calls keep beyond what is legal
 pub mod Discipline
+-- one window for each thread
+pub mod Windows
 -- what a crash may leave, after any entry
 pub mod Crashes

@@ -3,9 +3,9 @@
 -- lease that names a commit `Note`. `Check` looks at a lease that the call holds, other than a pool's, or, at the end of a call that
 -- only reads, once more at a counter or a lease; at the first look after the call's last load of the tree it is `Point` in its place.
 -- A change comes about by the store that is marked `Commit`. All other actions are `Plain`.
-use Rattle.std.specs.Prelude.{◌≡◌, ◌⊎◌, ℕ, ◌+◌, ◌%◌, ◌/◌, Bool, true, false, Option, Some, None, ◌==◌, ◌&&◌, ◌||◌, not}
+use Rattle.std.specs.Prelude.{◌≡◌, ◌⊎◌, ℕ, ◌+◌, ◌%◌, ◌/◌, Bool, true, false, Option, Some, None, ◌==◌, ◌&&◌, ◌||◌, not, is_some}
 use Rattle.std.specs.List.{list_any, range_with_len}
-use Rattle.zo_layout.specs.Layout.{page_at, control_at, dir_at, pool_lease}
+use Rattle.zo_layout.specs.Layout.{page_at, control_at, dir_at, pool_lease, dir_counter}
 use Rattle.kern_model.specs.Kernel.{coffers}
 use Rattle.kern_model.specs.KernelTables.{Coffer as KernelCoffer}
 use Rattle.tr_types.specs.declared.action.Action.{Action}
@@ -16,7 +16,7 @@ use Rattle.tr_types.specs.declared.entry.Mark.{Mark}
 use Rattle.tr_types.specs.declared.entry.Mark.TheVariants as mark
 use Rattle.tr_model.specs.Marks.{pkru_mark}
 use Rattle.tr_replay.specs.Causes.{reads, is_again}
-use Rattle.tr_replay.specs.Seats.{Seat, is_lease_of}
+use Rattle.tr_replay.specs.Seats.{Seat, is_lease_of, shown_at}
 use Rattle.tr_replay.specs.Worlds.{Base, World, is_lease}
 
 -- the word beside a lease that names a commit: of a directory or of a control page
@@ -40,15 +40,22 @@ take_mark false m = m ≡ mark.Plain
 abbrev pub is_pool_lease : Base → ℕ → Bool
 is_pool_lease b addr = list_any (λ (c : KernelCoffer). list_any (λ pool. pool_lease (page_at c.control) pool == addr) (range_with_len 0 8)) (coffers b.machine.bus.words)
 
--- a load is a check where it looks at a lease that the call holds; who reads decides for itself which words it looks at again
+-- A load is a check where it looks at a lease that the call holds; who reads may look once more at a lease or a counter that it has
+-- seen.
 abbrev pub load_mark : Bool → Bool → Mark → Type 0
-load_mark true reading m = is_again m ≡ true
+load_mark true again m = is_again m ≡ true
 load_mark false true m = (m ≡ mark.Plain) ⊎ (is_again m ≡ true)
 load_mark false false m = m ≡ mark.Plain
 
+abbrev pub is_counting : Base → ℕ → Bool
+is_counting b addr = b.leased (addr / 4096) && (dir_counter (page_at (addr / 4096)) == addr)
+
+abbrev pub may_look_again : Base → Seat → ℕ → Bool
+may_look_again b seat addr = reads seat.command && ((is_lease b addr || is_counting b addr) && is_some (shown_at addr seat.turns))
+
 abbrev pub IsMarked : Base → ℕ → Seat → Mark → Action → Type 0
 IsMarked b thread seat m (Pkru pkru) = m ≡ pkru_mark pkru
-IsMarked b thread seat m (Load addr) = load_mark (is_lease_of seat.held addr && not (is_pool_lease b addr)) (reads seat.command) m
+IsMarked b thread seat m (Load addr) = load_mark (is_lease_of seat.held addr && not (is_pool_lease b addr)) (may_look_again b seat addr) m
 IsMarked b thread seat m (Store addr word) = note_mark (is_noting b addr) m
 IsMarked b thread seat m (Cas addr old new) = take_mark (is_lease b addr && is_own thread new) m
 IsMarked b thread seat m action = m ≡ mark.Plain

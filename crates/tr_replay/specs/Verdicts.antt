@@ -93,13 +93,21 @@ is_look Check = true
 is_look Point = true
 is_look mark = false
 
--- what is settled after an action of the call, by the coffers before it
-abbrev pub settled_after : List Coffer → Cred → Command → Mark → Answer → Settled → Settled
-settled_after coffers cred command mark answer s = record {
+-- The first commit counts. A point counts until the call loads a word of the tree again.
+abbrev pub first_of : Verdict → Verdict → Verdict
+first_of NoPoint new = new
+first_of first new = first
+
+abbrev pub pointed_after : Bool → Mark → Verdict → Verdict → Verdict
+pointed_after tells_tree mark new old = if is_point mark then new else (if tells_tree then NoPoint else old)
+
+-- what is settled after an action of the call, by the coffers before it; `tells_tree` says whether it loads a word of the tree
+abbrev pub settled_after : Bool → List Coffer → Cred → Command → Mark → Answer → Settled → Settled
+settled_after tells_tree coffers cred command mark answer s = record {
   begun = s.begun;
   refused = if is_refusal answer then refusal_at coffers cred command else s.refused;
-  pointed = if is_point mark then verdict_at coffers cred command else s.pointed;
-  committed = if is_commit mark answer then verdict_at coffers cred command else s.committed;
+  pointed = pointed_after tells_tree mark (verdict_at coffers cred command) s.pointed;
+  committed = if is_commit mark answer then first_of s.committed (verdict_at coffers cred command) else s.committed;
   looked = if is_look mark then outlook_at coffers cred command else s.looked;
   short = if is_short answer then s.looked else s.short;
   barred = s.barred;

@@ -8,7 +8,7 @@ use Rattle.std.specs.Int.{w64, to_le_bytes}
 use Rattle.pm_words.specs.Word.{Word}
 use Rattle.pm_words.specs.Memory.{word_at}
 use Rattle.pm_words.specs.Hash.{fnv64_of}
-use Rattle.zo_layout.specs.Layout.{page_at, control_lease, pool_lease, dir_lease, root_page}
+use Rattle.zo_layout.specs.Layout.{page_at, control_lease, pool_lease, dir_lease, dir_at, dir_counter, root_page}
 use Rattle.kern_model.specs.KernelView.{value}
 use Rattle.kern_model.specs.Kernel.{kernel_owner, coffers}
 use Rattle.kern_model.specs.KernelTables.{Coffer as KernelCoffer}
@@ -16,13 +16,14 @@ use Rattle.bus_model.specs.Machine.{Machine, opened, moved}
 use Rattle.tr_types.specs.Fold.{state_after}
 use Rattle.tr_types.specs.Permission.{no_groups}
 use Rattle.tr_types.specs.declared.action.Action.{Action}
-use Rattle.tr_types.specs.declared.action.Action.TheVariants.{Store, Cas}
+use Rattle.tr_types.specs.declared.action.Action.TheVariants.{Load, Store, Cas}
 use Rattle.tr_types.specs.declared.action.Answer.{Answer}
 use Rattle.tr_types.specs.declared.action.Answer.TheVariants.{Word as WordIs, Done}
 use Rattle.tr_types.specs.declared.command.Command.{Command}
 use Rattle.tr_types.specs.declared.entry.Entry.{Entry}
 use Rattle.tr_types.specs.declared.entry.Entry.TheVariants as entry
 use Rattle.tr_types.specs.declared.entry.Mark.{Mark}
+use Rattle.tr_types.specs.declared.entry.Mark.TheVariants.{Plain}
 use Rattle.tr_types.specs.declared.entry.Pick.{Pick}
 use Rattle.tr_types.specs.declared.entry.Pick.TheVariants as pick
 use Rattle.tr_types.specs.declared.permission.Cred.{Cred}
@@ -111,6 +112,26 @@ is_lease_at control addr = (control_lease (page_at control) == addr) || list_any
 abbrev pub is_lease : Base → ℕ → Bool
 is_lease b addr =
     (b.leased (addr / 4096) && (dir_lease (page_at (addr / 4096)) == addr)) || list_any (λ (c : KernelCoffer). is_lease_at c.control addr) (coffers b.machine.bus.words)
+
+-- the pages that have a lease: of directories, and control pages
+abbrev pub is_control : Base → ℕ → Bool
+is_control b page = list_any (λ (c : KernelCoffer). c.control == page) (coffers b.machine.bus.words)
+
+abbrev pub has_lease : Base → ℕ → Bool
+has_lease b page = b.leased page || is_control b page
+
+-- A load of the tree: of no word of a control page, and none of a directory's lease, note or counter. A look at these is none, and
+-- neither is a check.
+
+abbrev pub is_beside : ℕ → ℕ → Bool
+is_beside dir addr = (dir_lease dir == addr) || (dir_at dir == addr) || (dir_counter dir == addr)
+
+abbrev pub is_of_tree : Base → ℕ → Bool
+is_of_tree b addr = not (is_control b (addr / 4096)) && not (b.leased (addr / 4096) && is_beside (page_at (addr / 4096)) addr)
+
+abbrev pub tells_tree : Base → Mark → Action → Bool
+tells_tree b Plain (Load addr) = is_of_tree b addr
+tells_tree b mark action = false
 
 -- An action of a call that comes too late: a store, or an exchange of a word that is no lease.
 abbrev pub comes_late : Base → ℕ → Action → Answer → Option Seat → Bool
@@ -207,13 +228,13 @@ abbrev pub seat_of : Option Cred → Command → Option Seat
 seat_of None command = None
 seat_of (Some cred) command = Some (new_seat cred command)
 
-abbrev pub seated : ℕ → ℕ → ℕ → Mark → Action → Answer → Option Seat → Option Seat
-seated position thread now mark action answer None = None
-seated position thread now mark action answer (Some seat) = Some (seat_after position thread now mark action answer seat)
+abbrev pub seated : (ℕ → Bool) → ℕ → ℕ → ℕ → Mark → Action → Answer → Option Seat → Option Seat
+seated has_lease position thread now mark action answer None = None
+seated has_lease position thread now mark action answer (Some seat) = Some (seat_after has_lease position thread now mark action answer seat)
 
 abbrev pub seats_after : Base → Entry → ℕ → Option Seat
 seats_after b (entry.Call thread command) = put b.seats thread (seat_of (cred_of b.machine.bus thread) command)
-seats_after b (entry.Act thread now mark action answer) = put b.seats thread (seated b.count thread now mark action answer (b.seats thread))
+seats_after b (entry.Act thread now mark action answer) = put b.seats thread (seated (has_lease b) b.count thread now mark action answer (b.seats thread))
 seats_after b (entry.Reply thread reply) = put b.seats thread None
 seats_after b (entry.Crash choice) = λ _. None
 seats_after b e = b.seats
@@ -271,11 +292,15 @@ abbrev pub trees_of : Bool → Base → Replay → Entry → ℕ → List Member
 trees_of drop b r (entry.Act thread now mark action answer) = trees_by drop b r (entry.Act thread now mark action answer) mark answer (b.seats thread)
 trees_of drop b r e = r.trees
 
+abbrev pub tells_tree_in : Base → Entry → Bool
+tells_tree_in b (entry.Act thread now mark action answer) = tells_tree b mark action
+tells_tree_in b e = false
+
 -- At its point a call's reply is settled by the coffers before the entry; a change that comes too late is judged by those after.
 abbrev pub settled_by : Base → Replay → Entry → Mark → Answer → Option Seat → Settled → Settled
 settled_by b r e mark answer None s = s
 settled_by b r e mark answer (Some seat) s =
-    settled_after (coffers_of (if is_commit mark answer then table_after b e else b.table) r.trees) seat.cred seat.command mark answer s
+    settled_after (tells_tree_in b e) (coffers_of (if is_commit mark answer then table_after b e else b.table) r.trees) seat.cred seat.command mark answer s
 
 abbrev pub settled_of : Base → Replay → Entry → ℕ → Settled
 settled_of b r (entry.Call thread command) = put r.settled thread (settled_at_call (coffers_of b.table r.trees) (cred_or (cred_of b.machine.bus thread)) command)
