@@ -1,0 +1,2 @@
+-- words of the memory and their places
+pub mod Places
