@@ -38,11 +38,11 @@ written_other (x ∷ xs) zero gone (suc t) ne = refl
 written_other (x ∷ xs) (suc thread) gone zero ne = refl
 written_other (x ∷ xs) (suc thread) gone (suc t) ne = written_other xs thread gone t (λ e. ne (ap suc e))
 
-mark_put_same : (marks : List ℕ) (thread gone : ℕ) → mark_at (put_mark marks thread gone) thread ≡ gone
+pub mark_put_same : (marks : List ℕ) (thread gone : ℕ) → mark_at (put_mark marks thread gone) thread ≡ gone
 unfolding put_mark
 mark_put_same marks thread gone = mark_trimmed (written marks thread gone) thread ∙ written_same marks thread gone
 
-mark_put_other : (marks : List ℕ) (thread gone t : ℕ) → t ≢ thread → mark_at (put_mark marks thread gone) t ≡ mark_at marks t
+pub mark_put_other : (marks : List ℕ) (thread gone t : ℕ) → t ≢ thread → mark_at (put_mark marks thread gone) t ≡ mark_at marks t
 unfolding put_mark
 mark_put_other marks thread gone t ne = mark_trimmed (written marks thread gone) t ∙ written_other marks thread gone t ne
 
@@ -51,16 +51,16 @@ mark_lowered gone [] t = let none : 0 ≡ 0 - gone = omega arith in none
 mark_lowered gone (x ∷ xs) zero = refl
 mark_lowered gone (x ∷ xs) (suc t) = mark_lowered gone xs t
 
-mark_less : (gone : ℕ) (marks : List ℕ) (t : ℕ) → mark_at (less_marks gone marks) t ≡ mark_at marks t - gone
+pub mark_less : (gone : ℕ) (marks : List ℕ) (t : ℕ) → mark_at (less_marks gone marks) t ≡ mark_at marks t - gone
 unfolding less_marks
 mark_less gone marks t = mark_trimmed (map (λ mark. mark - gone) marks) t ∙ mark_lowered gone marks t
 
 -- words
 
-length_each_word : (f : ℕ → Word → Word) (words : List Word) → length (each_word f words) ≡ length words
+pub length_each_word : (f : ℕ → Word → Word) (words : List Word) → length (each_word f words) ≡ length words
 length_each_word f words = length-map (enumerate_from 0 words) (λ p. f p.0 p.1) ∙ length-enumerate_from 0 words
 
-each_word_at : (f : ℕ → Word → Word) (words : List Word) (k : ℕ) (d : Word) → k < length words → slice_index_or (each_word f words) k d ≡ f k (slice_index_or words k d)
+pub each_word_at : (f : ℕ → Word → Word) (words : List Word) (k : ℕ) (d : Word) → k < length words → slice_index_or (each_word f words) k d ≡ f k (slice_index_or words k d)
 each_word_at f words k d lt =
     let inside : k < length (enumerate_from 0 words) = let l = length-enumerate_from 0 words in omega arith in
     let place : 0 + k ≡ k = omega arith in
@@ -85,18 +85,18 @@ pub length_fence : (thread : ℕ) (words : List Word) → length (fence_by threa
 length_fence thread words = length-map words (fenced thread)
 
 -- a word of the line is flushed, all others stay
-flush_here : (thread line addr : ℕ) (words : List Word) → addr / 8 < length words → line / 64 ≡ addr / 64 → word_at (flush_at thread line words) addr ≡ flushed thread (word_at words addr)
+pub flush_here : (thread line addr : ℕ) (words : List Word) → addr / 8 < length words → line / 64 ≡ addr / 64 → word_at (flush_at thread line words) addr ≡ flushed thread (word_at words addr)
 flush_here thread line addr words inside same =
     let here : addr / 8 / 8 ≡ line / 64 = omega (arith, same) in
     each_word_at (λ place w. if place / 8 == line / 64 then flushed thread w else w) words (addr / 8) (settled 0) inside
     ∙ ap (λ (b : Bool). cond b (flushed thread (word_at words addr)) (word_at words addr)) (eq-eqb (addr / 8 / 8) (line / 64) here)
 
-flush_aside : (thread line addr : ℕ) (words : List Word) → addr / 8 < length words → line / 64 ≢ addr / 64 → word_at (flush_at thread line words) addr ≡ word_at words addr
+pub flush_aside : (thread line addr : ℕ) (words : List Word) → addr / 8 < length words → line / 64 ≢ addr / 64 → word_at (flush_at thread line words) addr ≡ word_at words addr
 flush_aside thread line addr words inside other =
     each_word_at (λ place w. if place / 8 == line / 64 then flushed thread w else w) words (addr / 8) (settled 0) inside
     ∙ ap (λ (b : Bool). cond b (flushed thread (word_at words addr)) (word_at words addr)) (ne_eqb (addr / 8 / 8) (line / 64) (λ e. other (let eq : addr / 8 / 8 ≡ line / 64 = e in omega (arith, eq))))
 
-fence_here : (thread addr : ℕ) (words : List Word) → addr / 8 < length words → word_at (fence_by thread words) addr ≡ fenced thread (word_at words addr)
+pub fence_here : (thread addr : ℕ) (words : List Word) → addr / 8 < length words → word_at (fence_by thread words) addr ≡ fenced thread (word_at words addr)
 fence_here thread addr words inside = get_or-map (fenced thread) words (addr / 8) (settled 0) (settled 0) inside
 
 -- what a flush may make of a word, and a fence

@@ -1,3 +1,7 @@
 //! What the words of a coffer denote while calls cross, and whatever a crash leaves of them. Each function is empty, and
 //! its clause is a law of the definitions alone.
 #![tactic(auto)]
+
+mod memory;
+
+pub use memory::{mend_law, own_law};

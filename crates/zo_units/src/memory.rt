@@ -1,0 +1,12 @@
+// The memory with the places of its values.
+ghost use Rattle.zo_units.specs.MemoryLaws.{MendLaw, RiseLaw};
+
+/// Places only rise, so that what a call knows of them stays whatever others do.
+pub fn own_law()
+    ensures { RiseLaw }
+{}
+
+/// A commit is durable once a thread has flushed its line and then made a fence.
+pub fn mend_law()
+    ensures { MendLaw }
+{}
