@@ -3,5 +3,7 @@
 #![tactic(auto)]
 
 mod memory;
+mod units;
 
 pub use memory::{mend_law, own_law};
+pub use units::{drops_law, survive_law};

@@ -1,0 +1,12 @@
+// The units of a coffer.
+ghost use Rattle.zo_units.specs.UnitLaws.{DropsLaw, SurviveLaw};
+
+/// Whatever a crash leaves denotes the tree without the last commits that it loses.
+pub fn survive_law()
+    ensures { SurviveLaw }
+{}
+
+/// Which commits a crash loses can be told by their positions.
+pub fn drops_law()
+    ensures { DropsLaw }
+{}
