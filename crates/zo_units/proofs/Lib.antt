@@ -4,3 +4,5 @@ pub mod Places
 pub mod Nodes
 -- what a crash leaves of a coffer
 pub mod Survives
+-- what keeps a coffer sound
+pub mod Frames
