@@ -6,3 +6,7 @@ pub mod Nodes
 pub mod Survives
 -- what keeps a coffer sound
 pub mod Frames
+-- the words that tell the tree, and what is aside of them
+pub mod Telling
+-- stores beside, flushes, fences, and pages that come
+pub mod Steps

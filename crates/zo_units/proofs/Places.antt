@@ -178,12 +178,15 @@ rises_both m n o one two = record {
   marks = λ thread a. let x = one.marks thread a in let y = two.marks thread a in omega (arith, x, y);
 }
 
+pub rises_none : (m : Memory) → Rises m m
+rises_none m = record { floors = λ a. omega arith; tops = λ a. omega arith; marks = λ thread a. omega arith }
+
 tidy_run : (events : List Event) (m : Memory) → IsTidy m → IsTidy (run events m)
 tidy_run [] m t = t
 tidy_run (event ∷ events) m t = tidy_run events (after event m) (tidy_after event m t)
 
 rises_run : (events : List Event) (m : Memory) → IsTidy m → Rises m (run events m)
-rises_run [] m t = step_rises m m (not_step m t)
+rises_run [] m t = rises_none m
 rises_run (event ∷ events) m t =
     rises_both m (after event m) (run events (after event m)) (rises_after event m t) (rises_run events (after event m) (tidy_after event m t))
 

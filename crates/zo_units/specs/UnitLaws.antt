@@ -47,9 +47,9 @@ pub data MayStore (m : Memory) (coffer : CofferAt) (tree : List Member) (page_of
   -- a directory's lease, note, counter, and its words for entry pages and free entries
   Side : (names : List (List ℕ)) (i : ℕ) → IsDir tree names → 1 ≤ i → i ≤ 5 → addr / 8 ≡ word_of (page_at (page_of names)) i / 8 → MayStore m coffer tree page_of use_of lasts addr
   -- a control page's leases and pools
-  Control : addr / 4096 ≡ coffer.control → addr / 8 ≢ control_intent (page_at coffer.control) / 8 → MayStore m coffer tree page_of use_of lasts addr
+  ControlWord : addr / 4096 ≡ coffer.control → addr / 8 ≢ control_intent (page_at coffer.control) / 8 → MayStore m coffer tree page_of use_of lasts addr
   -- a free entry
-  Free : (names : List (List ℕ)) (entry i : ℕ) → IsFreeEntry m coffer tree page_of use_of lasts names entry → i < 40 → addr / 8 ≡ word_of entry i / 8 → MayStore m coffer tree page_of use_of lasts addr
+  FreeEntry : (names : List (List ℕ)) (entry i : ℕ) → IsFreeEntry m coffer tree page_of use_of lasts names entry → i < 40 → addr / 8 ≡ word_of entry i / 8 → MayStore m coffer tree page_of use_of lasts addr
   -- a word of an entry page in front of its entries
   Front : (names : List (List ℕ)) → use_of (addr / 4096) ≡ Entries names → addr / 8 < word_of (page_at (addr / 4096)) 32 / 8 → MayStore m coffer tree page_of use_of lasts addr
 

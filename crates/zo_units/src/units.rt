@@ -1,5 +1,5 @@
 // The units of a coffer.
-ghost use Rattle.zo_units.specs.UnitLaws.{DropsLaw, SpareLaw, SurviveLaw};
+ghost use Rattle.zo_units.specs.UnitLaws.{AsideLaw, DropsLaw, FlushLaw, GrowLaw, SpareLaw, StoreLaw, SurviveLaw, UseLaw};
 
 /// Whatever a crash leaves denotes the tree without the last commits that it loses.
 pub fn survive_law()
@@ -14,4 +14,29 @@ pub fn drops_law()
 /// All stays sound that spares the words that tell the tree, now or without an open commit.
 pub fn spare_law()
     ensures { SpareLaw }
+{}
+
+/// No such word is where a call may store beside its commit.
+pub fn aside_law()
+    ensures { AsideLaw }
+{}
+
+/// Stores and exchanges aside of the words that tell the tree keep all sound.
+pub fn store_law()
+    ensures { StoreLaw }
+{}
+
+/// Any thread's flushes and fences keep all sound.
+pub fn flush_law()
+    ensures { FlushLaw }
+{}
+
+/// Pages that come to a coffer keep all sound.
+pub fn grow_law()
+    ensures { GrowLaw }
+{}
+
+/// A page of no use may be given any use.
+pub fn use_law()
+    ensures { UseLaw }
 {}
