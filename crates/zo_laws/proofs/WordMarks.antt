@@ -69,7 +69,7 @@ each_word_at f words k d lt =
     ∙ ap (λ (j : ℕ). f j (slice_index_or words k d)) place
 
 -- a word past the end is durable and has no mark
-past_end : (words : List Word) (addr : ℕ) → length words ≤ addr / 8 → word_at words addr ≡ settled 0
+pub past_end : (words : List Word) (addr : ℕ) → length words ≤ addr / 8 → word_at words addr ≡ settled 0
 past_end words addr past = get_or_past words (addr / 8) (settled 0) past
 
 pub store_aside : (other word addr : ℕ) (words : List Word) → other / 8 ≢ addr / 8 → word_at (store_at other word words) addr ≡ word_at words addr

@@ -10,3 +10,5 @@ pub mod Frames
 pub mod Telling
 -- stores beside, flushes, fences, and pages that come
 pub mod Steps
+-- the memory of a list of words
+pub mod Lists

@@ -1,5 +1,5 @@
 // The memory with the places of its values.
-ghost use Rattle.zo_units.specs.MemoryLaws.{MendLaw, RiseLaw};
+ghost use Rattle.zo_units.specs.MemoryLaws.{CrashLeaves, MemoryLaw, MendLaw, RiseLaw};
 
 /// Places only rise, so that what a call knows of them stays whatever others do.
 pub fn own_law()
@@ -9,4 +9,14 @@ pub fn own_law()
 /// A commit is durable once a thread has flushed its line and then made a fence.
 pub fn mend_law()
     ensures { MendLaw }
+{}
+
+/// The memory's steps are those of its list of words.
+pub fn memory_law()
+    ensures { MemoryLaw }
+{}
+
+/// A crash takes each word from one of its places, which the choice tells.
+pub fn crash_law()
+    ensures { CrashLeaves }
 {}
