@@ -4,6 +4,8 @@ pub mod Places
 pub mod Nodes
 -- what a crash leaves of a coffer
 pub mod Survives
+-- one unit beside others
+pub mod UnitFrames
 -- what keeps a coffer sound
 pub mod Frames
 -- the words that tell the tree, and what is aside of them

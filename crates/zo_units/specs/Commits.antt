@@ -7,7 +7,7 @@ use Rattle.zo_model.specs.Tree.{Member, Node, Directory, FileOf, node_at, same_n
 use Rattle.zo_model.specs.Directory.{IsPlace, IsReached, name_at}
 use Rattle.zo_model.specs.CofferWords.{CofferAt, Use, Nothing, Object, IsEntryPage, IsDir, IsInLimits}
 use Rattle.zo_units.specs.Memory.{Memory, at, IsClean, stored_in}
-use Rattle.zo_units.specs.Units.{Commitment, Undo, Lasts, IsOpen, IsStill, node_before, IsSound}
+use Rattle.zo_units.specs.Units.{Commitment, Undo, Lasts, IsOpen, IsStill, above, node_before, IsSound}
 use Rattle.zo_units.specs.UnitLaws.{put_use}
 
 -- The page has the words of an empty file or directory, and they are durable.
@@ -30,7 +30,7 @@ pub record CanCommit (m : Memory) (coffer : CofferAt) (tree : List Member) (page
   pub dir : IsDir tree names
   pub still : IsStill m (lasts names)
   -- no crash takes the directory away
-  pub sure : (parent : List (List ℕ)) (last : List ℕ) (c : Commitment) → names ≡ parent ++ last ∷ [] → lasts parent ≡ Some c → IsOpen m c → node_before c tree names ≡ Some Directory
+  pub sure : (c : Commitment) → lasts (above names) ≡ Some c → IsOpen m c → node_before c tree names ≡ Some Directory
   pub missing : node_at tree (names ++ name ∷ []) ≡ None
   pub no_coffer : list_any (same_names (names ++ name ∷ [])) coffer.below ≡ false
   pub is_name : IsName name
