@@ -14,3 +14,5 @@ pub mod Telling
 pub mod Steps
 -- the memory of a list of words
 pub mod Lists
+-- the commit of a link
+pub mod Linked

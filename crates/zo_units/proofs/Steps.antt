@@ -12,7 +12,7 @@ use Rattle.zo_units.specs.UnitLaws.{AllTold, IsAside, StoreLaw, FlushLaw, GrowLa
 use Rattle.zo_units.proofs.Places.{word_aside, top_aside, exchange_cases, tidy_after, rises_after, rises_none}
 use Rattle.zo_units.proofs.Nodes.{told}
 use Rattle.zo_units.proofs.Frames.{paged, spares, sound_wider}
-use Rattle.zo_units.proofs.Telling.{Tells, all_told, Serves, AsControl, AsObject, AsEntries, serves}
+use Rattle.zo_units.proofs.Telling.{Tells, all_told, Serves, AsControl, AsObject, AsEntries, serves, nothing_control, nothing_object, nothing_entries}
 
 pub told_more : (P Q : ℕ → Type 0) (m : Memory) (coffer : CofferAt) (tree : List Member) (page_of : List (List ℕ) → ℕ) (lasts : Lasts) → ((a : ℕ) → P a → Q a)
     → AllTold P m coffer tree page_of lasts → AllTold Q m coffer tree page_of lasts
@@ -25,7 +25,7 @@ told_more P Q m coffer tree page_of lasts more k = record {
   befores = λ names c entry i may last opened reached few. more _ (k.befores names c entry i may last opened reached few);
 }
 
-store_spares : (addr value : ℕ) (m : Memory) (a : ℕ) → a / 8 ≢ addr / 8 → Spares m (stored_in addr value m) a
+pub store_spares : (addr value : ℕ) (m : Memory) (a : ℕ) → a / 8 ≢ addr / 8 → Spares m (stored_in addr value m) a
 store_spares addr value m a other =
     let word = word_aside addr value m a other in
     record { present = ap (λ (w : Word). w.present) word; top = top_aside addr value m a other; gone = 0; older = ap (λ (w : Word). w.older) word }
@@ -84,15 +84,6 @@ grows m n coffer grown tree page_of use_of lasts g s =
     where_it_is a (AsControl page is) = inr page
     where_it_is a (AsObject names has is) = inl has
     where_it_is a (AsEntries names has is) = inl has
-
-nothing_control : Nothing ≡ Control → ⊥
-nothing_control e = cc
-
-nothing_object : (ns : List (List ℕ)) → Nothing ≡ Object ns → ⊥
-nothing_object ns e = cc
-
-nothing_entries : (ns : List (List ℕ)) → Nothing ≡ Entries ns → ⊥
-nothing_entries ns e = cc
 
 pub put_use_other : (use_of : ℕ → Use) (page : ℕ) (new : Use) (p : ℕ) → p ≢ page → put_use use_of page new p ≡ use_of p
 put_use_other use_of page new p other = cond-false (p == page) new (use_of p) (ne_eqb p page other)

@@ -17,22 +17,22 @@ reached_place words P dir want entry shows r =
     let same = one_chain words (words (bucket_head dir r.bucket)) r.entries b.entries r.leads b.leads in
     (b.each entry (subst (λ (l : List ℕ). Contains l entry) same r.among)).place
 
-nothing_control : Nothing ≡ Control → ⊥
+pub nothing_control : Nothing ≡ Control → ⊥
 nothing_control e = cc
 
-nothing_object : (ns : List (List ℕ)) → Nothing ≡ Object ns → ⊥
+pub nothing_object : (ns : List (List ℕ)) → Nothing ≡ Object ns → ⊥
 nothing_object ns e = cc
 
-nothing_entries : (ns : List (List ℕ)) → Nothing ≡ Entries ns → ⊥
+pub nothing_entries : (ns : List (List ℕ)) → Nothing ≡ Entries ns → ⊥
 nothing_entries ns e = cc
 
-control_object : (ns : List (List ℕ)) → Control ≡ Object ns → ⊥
+pub control_object : (ns : List (List ℕ)) → Control ≡ Object ns → ⊥
 control_object ns e = cc
 
 control_entries : (ns : List (List ℕ)) → Control ≡ Entries ns → ⊥
 control_entries ns e = cc
 
-object_entries : (ns os : List (List ℕ)) → Object ns ≡ Entries os → ⊥
+pub object_entries : (ns os : List (List ℕ)) → Object ns ≡ Entries os → ⊥
 object_entries ns os e = cc
 
 pub object_same : (ns os : List (List ℕ)) → Object ns ≡ Object os → ns ≡ os

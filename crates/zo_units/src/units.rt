@@ -1,4 +1,5 @@
 // The units of a coffer.
+ghost use Rattle.zo_units.specs.Commits.{CommitLaw};
 ghost use Rattle.zo_units.specs.UnitLaws.{AsideLaw, DropsLaw, FlushLaw, GrowLaw, SpareLaw, StoreLaw, SurviveLaw, UseLaw};
 
 /// Whatever a crash leaves denotes the tree without the last commits that it loses.
@@ -39,4 +40,9 @@ pub fn grow_law()
 /// A page of no use may be given any use.
 pub fn use_law()
     ensures { UseLaw }
+{}
+
+/// The commit of a link leaves all sound, with the new member, and the commit as its directory's last one.
+pub fn commit_law()
+    ensures { CommitLaw }
 {}
