@@ -1,23 +1,19 @@
 -- All stays sound that spares the words that tell the tree. Pages may come to the coffer meanwhile, and pages of no use may come to be used.
-use Rattle.std.proofs.Common.{◌≡◌, ◌≢◌, ◌⊎◌, inl, inr, ℕ, zero, suc, ◌+◌, ◌-◌, ◌/◌, ◌≤◌, ◌<◌, ◌==◌, Bool, true, false, cond, if◌then◌else◌, List, [], ◌∷◌, ◌++◌, length, drop, map, slice_index_or, Contains, Option, Some, None, refl, sym, ap, ap₂, subst, ◌∙◌, arith}
-use Rattle.std.proofs.lemmas.Bool.{cases_lt}
-use Rattle.std.specs.List.{list_any}
-use Rattle.pm_words.specs.Word.{Word}
-use Rattle.zo_layout.specs.Layout.{page_at, bucket_head, word_of, next_entry, control_intent, page_kind, file_map}
-use Rattle.zo_model.specs.Tree.{Member, Node, Directory, FileOf, node_at, same_names}
-use Rattle.zo_model.specs.Directory.{Shows, IsReached, Leads}
-use Rattle.zo_model.specs.CofferWords.{CofferAt, Use, Control, Object, Entries, IsEntryPage, IsNode, IsMember, IsInLimits, IsDir, target_of, wanted}
+use Rattle.std.proofs.Common.{◌≡◌, inl, inr, ℕ, List, [], ◌∷◌, ◌++◌, Contains, Option, Some, None, refl, subst, ◌∙◌, arith}
+use Rattle.zo_layout.specs.Layout.{page_at, control_intent}
+use Rattle.zo_model.specs.Tree.{Member, Node, Directory, FileOf, node_at}
+use Rattle.zo_model.specs.Directory.{Shows}
+use Rattle.zo_model.specs.CofferWords.{CofferAt, Use, Control, Object, Entries, IsEntryPage, IsNode, target_of, wanted}
 use Rattle.zo_laws.specs.Laws.{KeepsNames}
-use Rattle.zo_laws.proofs.Chains.{leads_stay}
-use Rattle.zo_laws.proofs.Directories.{shows_stay, reached_before}
+use Rattle.zo_laws.proofs.Directories.{shows_stay}
 use Rattle.zo_laws.proofs.PageLemmas.{shows_want}
-use Rattle.zo_units.specs.Memory.{Memory, at, floor, value_at, IsClean, IsTidy}
+use Rattle.zo_units.specs.Memory.{Memory, at, IsTidy}
 use Rattle.zo_units.specs.MemoryLaws.{Rises, Spares}
-use Rattle.zo_units.specs.Units.{Undo, Commitment, Lasts, IsOpen, IsStill, above, node_before, back, IsBut, CleanBut, IsFirm, IsFirmNode, wanted_before, IsLink, Head, Next, IsPending, IsUnit, MayStand, Stood, IsBare, MayReturn, Stands, DenotesBy, IsSound}
-use Rattle.zo_units.specs.UnitLaws.{AllTold, SpareLaw, GrowLaw, UseLaw, Grows, put_use}
-use Rattle.zo_units.proofs.Places.{length_dropped, dropped_none, empty_is, still_rises}
+use Rattle.zo_units.specs.Units.{Commitment, Lasts, IsOpen, node_before, back, IsUnit, MayStand, IsBare, MayReturn, Stands, IsSound}
+use Rattle.zo_units.specs.UnitLaws.{AllTold, SpareLaw}
+use Rattle.zo_units.proofs.Places.{still_rises}
 use Rattle.zo_units.proofs.UnitFrames.{clean_spared, firm_node_spared, unit_moved}
-use Rattle.zo_units.proofs.Nodes.{still_none, still_durable, IsTold, told, denotes_by}
+use Rattle.zo_units.proofs.Nodes.{IsTold, told, denotes_by}
 
 -- the coffer with these pages
 abbrev pub paged : CofferAt → List ℕ → CofferAt

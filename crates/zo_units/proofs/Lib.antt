@@ -16,3 +16,5 @@ pub mod Steps
 pub mod Lists
 -- the commit of a link
 pub mod Linked
+-- a coffer whose words are durable, and after a crash
+pub mod Starts

@@ -1,5 +1,5 @@
 -- The commit of a link leaves a coffer sound, with the new member.
-use Rattle.std.proofs.Common.{◌≡◌, ◌≢◌, ◌⊎◌, inl, inr, ℕ, zero, suc, ◌+◌, ◌-◌, ◌/◌, ◌≤◌, ◌<◌, ◌==◌, Bool, true, false, cond, if◌then◌else◌, List, [], ◌∷◌, ◌++◌, length, map, slice_index_or, Contains, Option, Some, None, refl, sym, ap, ap₂, subst, ◌∙◌, arith, eq-eqb, ne_eqb}
+use Rattle.std.proofs.Common.{◌≡◌, ◌≢◌, ◌⊎◌, inl, inr, ℕ, ◌+◌, ◌-◌, ◌/◌, ◌<◌, ◌==◌, Bool, true, false, cond, if◌then◌else◌, List, [], ◌∷◌, ◌++◌, length, slice_index_or, Contains, Option, Some, None, refl, sym, ap, ap₂, subst, ◌∙◌, arith, eq-eqb, ne_eqb}
 use Rattle.std.proofs.lemmas.Bool.{cases_eq, cond-true, cond-false}
 use Rattle.std.proofs.lemmas.Option.{none-some}
 use Rattle.std.specs.Cmp.Lexicographic.{bytes_decides}
@@ -9,20 +9,19 @@ use Rattle.zo_layout.specs.Layout.{page_at, bucket_head, bucket_of, word_of, ent
 use Rattle.tr_types.specs.Paths.{same_text}
 use Rattle.zo_model.specs.Tree.{Member, Node, Directory, FileOf, node_at, same_names}
 use Rattle.zo_model.specs.Directory.{IsPlace, IsReached, Leads, Shows}
-use Rattle.zo_model.specs.CofferWords.{CofferAt, Use, Nothing, Control, Object, Entries, IsEntryPage, IsNode, IsMember, IsInLimits, IsDir, target_of, wanted}
+use Rattle.zo_model.specs.CofferWords.{CofferAt, Use, Nothing, Object, IsEntryPage, IsNode, IsInLimits, IsDir, target_of, wanted}
 use Rattle.zo_model.specs.Steps.{put as put_at}
-use Rattle.zo_laws.specs.Laws.{KeepsNames}
 use Rattle.zo_laws.specs.Linking.{with_name}
 use Rattle.zo_laws.proofs.Members.{contains_cases, contains_none}
 use Rattle.zo_laws.proofs.Directories.{shows_stay}
 use Rattle.zo_laws.proofs.PageLemmas.{shows_more, shows_want}
 use Rattle.zo_laws.proofs.MemberLemmas.{same_names_decides, cases_names, names_unlike, last_same, longer, not_root, node_kept, one_member, node_new, node_other, node_cases, once_more}
 use Rattle.zo_laws.proofs.CommitLemmas.{IsReady as IsLinkReady, committed, shows_linked, reached_linked}
-use Rattle.zo_units.specs.Memory.{Memory, Event, Store, at, floor, value_at, IsClean, IsTidy, stored_in}
+use Rattle.zo_units.specs.Memory.{Memory, Store, at, floor, value_at, IsClean, IsTidy, stored_in}
 use Rattle.zo_units.specs.MemoryLaws.{Rises, Spares}
-use Rattle.zo_units.specs.Units.{Undo, Commitment, Lasts, IsOpen, IsStill, above, undone, node_before, back, CleanBut, IsFirm, IsFirmNode, wanted_before, IsLink, Head, IsPending, IsUnit, MayStand, Stood, IsBare, MayReturn, Stands, IsSound}
+use Rattle.zo_units.specs.Units.{Undo, Commitment, Lasts, IsOpen, IsStill, above, undone, node_before, back, CleanBut, IsFirm, IsFirmNode, wanted_before, Head, IsPending, IsUnit, MayStand, Stood, IsBare, MayReturn, Stands, IsSound}
 use Rattle.zo_units.specs.UnitLaws.{put_use}
-use Rattle.zo_units.specs.Commits.{IsReady, IsPrepared, CanCommit, link_commit, with_member, put_page, put_last, CommitLaw}
+use Rattle.zo_units.specs.Commits.{IsReady, CanCommit, link_commit, with_member, put_page, put_last, CommitLaw}
 use Rattle.zo_units.proofs.Places.{word_stored, top_stored, word_aside, tidy_after, rises_after, still_rises}
 use Rattle.zo_units.proofs.Nodes.{above_push, commit_same, IsTold, told, denotes_by}
 use Rattle.zo_units.proofs.UnitFrames.{clean_spared, firm_node_spared, unit_moved}
@@ -423,8 +422,7 @@ module _ (m : Memory) (coffer : CofferAt) (tree : List Member) (page_of : List (
   new_node : (nd : Node) → IsReady m (page_at made) nd → IsNode (at n) (Q full) (wanted pages coffer larger full) (page_at made) nd × IsFirmNode n (page_at made) nd
   new_node Directory is =
       let first : word_of (page_at made) 0 ≡ page_kind (page_at made) = omega arith in
-      let word = is 0 (omega arith) in
-      (
+      let word = is 0 (omega arith) in (
         (
           stays (page_kind (page_at made)) (kind_apart made d (bucket_of name) low) ∙ ap (at m) (sym first) ∙ word.0,
           shows_none (at n) (Q full) (page_at made) (wanted pages coffer larger full) (made_zero is) none_below,

@@ -1,18 +1,18 @@
 -- The memory of a list of words: its steps, and what a crash leaves.
-use Rattle.std.proofs.Common.{◌≡◌, ◌≢◌, ◌⊎◌, inl, inr, ℕ, zero, suc, ◌+◌, ◌-◌, ◌*◌, ◌/◌, ◌%◌, ◌≤◌, ◌<◌, ◌==◌, Bool, true, false, cond, if◌then◌else◌, List, [], ◌∷◌, ◌++◌, length, length-append, slice_index_or, slice_set, refl, sym, ap, ap₂, ◌∙◌, arith, eq-eqb, ne_eqb, mod-lt, get_or-set_same}
+use Rattle.std.proofs.Common.{◌≡◌, ◌≢◌, ◌⊎◌, inl, inr, ℕ, zero, suc, ◌+◌, ◌-◌, ◌*◌, ◌/◌, ◌%◌, ◌≤◌, ◌<◌, ◌==◌, Bool, true, false, if◌then◌else◌, List, [], ◌∷◌, ◌++◌, length, length-append, slice_index_or, refl, sym, ap, ◌∙◌, arith, eq-eqb, ne_eqb, mod-lt, get_or-set_same}
 use Rattle.std.specs.Int.{w64, to_le_bytes}
 use Rattle.std.proofs.lemmas.Bool.{cases_eq, cases_lt, cond-true, cond-false}
 use Rattle.std.proofs.Math.Seq.{get_or-append_seam}
 use Rattle.pm_words.specs.Hash.{fnv64_of}
-use Rattle.pm_words.specs.Marks.{with_first, trimmed, written, put_mark, less_marks, mark_at}
+use Rattle.pm_words.specs.Marks.{with_first, trimmed, written, put_mark, less_marks}
 use Rattle.pm_words.specs.Memory.{word_at, store_at, cas_at, flush_at, fence_by}
 use Rattle.pm_words.specs.Word.{Word, settled, stored, flushed, fenced, crash_list}
 use Rattle.pm_words.specs.Crash.{picked, after_crash}
 use Rattle.pm_words.specs.declared.choice.Choice.{Choice}
 use Rattle.pm_words.specs.declared.choice.Choice.TheVariants as pick
 use Rattle.zo_laws.proofs.WordMarks.{store_aside, flush_here, flush_aside, fence_here, past_end, length_flush, length_fence, length_each_word, each_word_at}
-use Rattle.zo_units.specs.Memory.{Memory, Event, Store, Exchange, Flush, Fence, at, floor, value_at, IsTidy, IsLeft, stored_in, exchanged_in, flushed_in, fenced_in, after, memory_of, raised, words_after, tops_after}
-use Rattle.zo_units.specs.MemoryLaws.{IsInside, MemoryLaw, CrashLeaves, picked_place, crash_places, crash_image}
+use Rattle.zo_units.specs.Memory.{Store, Exchange, Flush, Fence, floor, stored_in, exchanged_in, memory_of, raised}
+use Rattle.zo_units.specs.MemoryLaws.{MemoryLaw, CrashLeaves, picked_place, crash_places, crash_image}
 
 -- a word past the end stays as it is
 no_marks : (thread : ℕ) → let none : List ℕ = [] in trimmed (written none thread 0) ≡ none

@@ -1,5 +1,5 @@
 -- What stands at a path with and without commits, and what a coffer's words denote, by its parts.
-use Rattle.std.proofs.Common.{◌≡◌, ◌≢◌, ◌⊎◌, inl, inr, ℕ, ◌+◌, ◌≤◌, ◌<◌, nat_lt, Bool, true, false, cond, if◌then◌else◌, List, [], ◌∷◌, ◌++◌, map, Contains, Option, Some, None, refl, sym, ap, subst, ◌∙◌, arith, eq-eqb, eqb-true}
+use Rattle.std.proofs.Common.{◌≡◌, ◌≢◌, ◌⊎◌, inl, inr, ℕ, ◌≤◌, ◌<◌, true, false, List, [], ◌∷◌, ◌++◌, map, Contains, Option, Some, None, refl, sym, ap, subst, ◌∙◌, arith, eq-eqb}
 use Rattle.std.proofs.lemmas.Bool.{cond-true, cond-false}
 use Rattle.std.proofs.lemmas.Option.{none-some}
 use Rattle.std.specs.List.{IsDistinct, list_any}
@@ -7,9 +7,9 @@ use Rattle.zo_layout.specs.Layout.{page_at, control_intent}
 use Rattle.zo_model.specs.Tree.{Member, Node, Directory, FileOf, node_at, same_names}
 use Rattle.zo_model.specs.CofferWords.{CofferAt, Use, Control, IsMember, IsInLimits, IsDir, Denotes, wanted}
 use Rattle.zo_laws.proofs.Members.{contains_here, contains_there}
-use Rattle.zo_laws.proofs.MemberLemmas.{names_unlike, not_root}
-use Rattle.zo_units.specs.Memory.{Memory, at, floor}
-use Rattle.zo_units.specs.Units.{Undo, Commitment, Lasts, IsOpen, IsStill, above, undone, node_before, picked, node_left, is_dropped, Drops, dropped_last, dropped, DenotesBy, IsSound}
+use Rattle.zo_laws.proofs.MemberLemmas.{names_unlike}
+use Rattle.zo_units.specs.Memory.{Memory, floor}
+use Rattle.zo_units.specs.Units.{Undo, Commitment, Lasts, IsOpen, IsStill, above, undone, is_dropped, dropped_last, DenotesBy, IsSound}
 use Rattle.zo_units.specs.UnitLaws.{DropsLaw}
 
 pub above_push : (names : List (List ℕ)) (name : List ℕ) → above (names ++ name ∷ []) ≡ names

@@ -1,12 +1,12 @@
 -- Words of the memory and their places: what each event leaves of them.
-use Rattle.std.proofs.Common.{◌≡◌, ◌≢◌, ◌⊎◌, inl, inr, ℕ, zero, suc, ◌+◌, ◌-◌, ◌/◌, ◌<◌, ◌≤◌, ◌==◌, Bool, true, false, cond, if◌then◌else◌, List, [], ◌∷◌, ◌++◌, length, length-append, drop, Option, refl, sym, ap, ap₂, subst, ◌∙◌, arith, eq-eqb, ne_eqb}
+use Rattle.std.proofs.Common.{◌≡◌, ◌≢◌, ◌⊎◌, inl, inr, ℕ, zero, suc, ◌+◌, ◌-◌, ◌/◌, ◌≤◌, ◌==◌, Bool, true, false, if◌then◌else◌, List, [], ◌∷◌, length, length-append, drop, Option, refl, sym, ap, ap₂, subst, ◌∙◌, arith, eq-eqb, ne_eqb}
 use Rattle.std.proofs.lemmas.Bool.{cases_eq, cond-true, cond-false}
 use Rattle.pm_words.specs.Marks.{mark_at}
 use Rattle.pm_words.specs.Word.{Word, stored, flushed, fenced}
 use Rattle.zo_laws.proofs.WordMarks.{mark_put_same, mark_put_other, mark_less}
 use Rattle.zo_units.specs.Memory.{Memory, Event, Store, Exchange, Flush, Fence, at, floor, marked, IsTidy, stored_in, exchanged_in, flushed_in, fenced_in, after}
 use Rattle.zo_units.specs.MemoryLaws.{Rises, RiseLaw, MendLaw, run}
-use Rattle.zo_units.specs.Units.{Commitment, IsOpen, IsStill}
+use Rattle.zo_units.specs.Units.{Commitment, IsStill}
 
 pub length_dropped : (n : ℕ) (xs : List ℕ) → length (drop n xs) ≡ length xs - n
 length_dropped zero xs = let none : length xs ≡ length xs - 0 = omega arith in none
@@ -201,7 +201,7 @@ flush_marks : (thread addr a : ℕ) (m : Memory) → IsTidy m → a / 64 ≡ add
 flush_marks thread addr a m t same =
     ap (λ (w : Word). m.top a - length w.older + mark_at w.marks thread) (cond-true (a / 64 == addr / 64) (flushed thread (m.word a)) (m.word a) (eq-eqb (a / 64) (addr / 64) same))
     ∙ (let mark = mark_put_same (m.word a).marks thread (length (m.word a).older) in let low = t.older a in
-        let sum : m.top a - length (m.word a).older + mark_at (flushed thread (m.word a)).marks thread ≡ m.top a = omega (arith, mark, low) in sum)
+    let sum : m.top a - length (m.word a).older + mark_at (flushed thread (m.word a)).marks thread ≡ m.top a = omega (arith, mark, low) in sum)
 
 fence_settles : (thread a : ℕ) (m : Memory) → IsTidy m → floor (fenced_in thread m) a ≡ marked m thread a
 fence_settles thread a m t =

@@ -1,18 +1,17 @@
 -- Stores beside, flushes, fences, and pages that come keep a coffer sound.
-use Rattle.std.proofs.Common.{◌≡◌, ◌≢◌, ◌⊎◌, inl, inr, ℕ, ◌+◌, ◌-◌, ◌/◌, ◌≤◌, ◌<◌, ◌==◌, Bool, true, false, cond, if◌then◌else◌, List, Contains, drop, refl, sym, ap, subst, ◌∙◌, arith, ne_eqb}
+use Rattle.std.proofs.Common.{◌≡◌, ◌≢◌, ◌⊎◌, inl, inr, ℕ, ◌/◌, ◌==◌, Bool, true, false, if◌then◌else◌, List, Contains, refl, sym, ap, subst, ◌∙◌, ne_eqb}
 use Rattle.std.proofs.lemmas.Bool.{cond-false}
 use Rattle.pm_words.specs.Marks.{mark_at}
 use Rattle.pm_words.specs.Word.{Word, flushed}
 use Rattle.zo_model.specs.Tree.{Member}
-use Rattle.zo_model.specs.CofferWords.{CofferAt, Use, Nothing, Control, Object, Entries}
-use Rattle.zo_units.specs.Memory.{Memory, Event, Store, Flush, Fence, at, IsTidy, stored_in, exchanged_in, flushed_in, fenced_in, after}
-use Rattle.zo_units.specs.MemoryLaws.{Rises, Spares}
+use Rattle.zo_model.specs.CofferWords.{CofferAt, Use, Nothing, Control}
+use Rattle.zo_units.specs.Memory.{Memory, Store, Flush, Fence, at, stored_in, flushed_in, fenced_in}
+use Rattle.zo_units.specs.MemoryLaws.{Spares}
 use Rattle.zo_units.specs.Units.{Lasts, IsSound}
-use Rattle.zo_units.specs.UnitLaws.{AllTold, IsAside, StoreLaw, FlushLaw, GrowLaw, Grows, UseLaw, put_use}
+use Rattle.zo_units.specs.UnitLaws.{AllTold, IsAside, StoreLaw, FlushLaw, GrowLaw, UseLaw, put_use}
 use Rattle.zo_units.proofs.Places.{word_aside, top_aside, exchange_cases, tidy_after, rises_after, rises_none}
-use Rattle.zo_units.proofs.Nodes.{told}
 use Rattle.zo_units.proofs.Frames.{paged, spares, sound_wider}
-use Rattle.zo_units.proofs.Telling.{Tells, all_told, Serves, AsControl, AsObject, AsEntries, serves, nothing_control, nothing_object, nothing_entries}
+use Rattle.zo_units.proofs.Telling.{all_told, Serves, AsControl, AsObject, AsEntries, serves, nothing_control, nothing_object, nothing_entries}
 
 pub told_more : (P Q : ℕ → Type 0) (m : Memory) (coffer : CofferAt) (tree : List Member) (page_of : List (List ℕ) → ℕ) (lasts : Lasts) → ((a : ℕ) → P a → Q a)
     → AllTold P m coffer tree page_of lasts → AllTold Q m coffer tree page_of lasts

@@ -1,5 +1,5 @@
 -- What a crash leaves denotes the tree without the last commits that it loses.
-use Rattle.std.proofs.Common.{◌≡◌, ◌≢◌, ◌⊎◌, inl, inr, ℕ, zero, suc, ◌+◌, ◌-◌, ◌/◌, ◌≤◌, ◌<◌, ◌==◌, nat_lt, Bool, true, false, cond, if◌then◌else◌, List, [], ◌∷◌, ◌++◌, length, map, slice_index_or, Contains, Option, Some, None, refl, sym, ap, ap₂, subst, ◌∙◌, arith, eq-eqb, ne_eqb, lt-ltb, le-ltb}
+use Rattle.std.proofs.Common.{◌≡◌, ◌≢◌, ◌⊎◌, inl, inr, ℕ, ◌+◌, ◌-◌, ◌/◌, ◌≤◌, ◌<◌, ◌==◌, Bool, true, false, if◌then◌else◌, List, [], ◌∷◌, ◌++◌, length, slice_index_or, Option, Some, None, refl, sym, ap, ap₂, ◌∙◌, arith, eq-eqb, ne_eqb, lt-ltb, le-ltb}
 use Rattle.std.proofs.lemmas.Bool.{cases_eq, cases_lt, cond-true, cond-false}
 use Rattle.std.proofs.lemmas.Option.{none-some}
 use Rattle.std.proofs.Math.Seq.{get_or-append_seam}
@@ -14,7 +14,7 @@ use Rattle.zo_laws.proofs.Directories.{shows_stay}
 use Rattle.zo_laws.proofs.PageLemmas.{shows_want}
 use Rattle.zo_laws.proofs.MemberLemmas.{not_root}
 use Rattle.zo_units.specs.Memory.{Memory, at, floor, value_at, IsClean, IsTidy, IsLeft}
-use Rattle.zo_units.specs.Units.{Undo, Commitment, Lasts, IsOpen, IsStill, above, undone, node_before, picked, node_left, IsLeftTree, Drops, back, IsBut, CleanBut, IsFirm, IsFirmNode, wanted_before, MayStand, Stood, DenotesBy, IsSound}
+use Rattle.zo_units.specs.Units.{Commitment, Lasts, IsOpen, IsStill, above, undone, node_before, picked, node_left, IsLeftTree, Drops, back, CleanBut, IsFirm, wanted_before, MayStand, IsSound}
 use Rattle.zo_units.specs.UnitLaws.{SurviveLaw}
 use Rattle.zo_units.proofs.Nodes.{above_push, undone_other, still_none, still_durable, IsTold, told, denotes_by, opened_dir}
 

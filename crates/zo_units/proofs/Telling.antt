@@ -1,14 +1,14 @@
 -- The words that tell the tree, with the uses of their pages; and what is aside of them.
-use Rattle.std.proofs.Common.{◌≡◌, ◌≢◌, ◌⊎◌, inl, inr, ℕ, ◌+◌, ◌/◌, ◌≤◌, ◌<◌, List, [], ◌∷◌, ◌++◌, Contains, Option, Some, None, refl, sym, ap, subst, ◌∙◌, arith}
+use Rattle.std.proofs.Common.{◌≡◌, ◌≢◌, ◌⊎◌, inl, inr, ℕ, ◌/◌, ◌≤◌, ◌<◌, List, Contains, Option, Some, refl, sym, ap, subst, ◌∙◌, arith}
 use Rattle.zo_layout.specs.Layout.{page_at, bucket_head, word_of, control_intent, page_kind, file_map}
 use Rattle.zo_model.specs.Tree.{Member, Node, Directory, FileOf}
 use Rattle.zo_model.specs.Directory.{IsPlace, IsReached, Shows}
-use Rattle.zo_model.specs.CofferWords.{CofferAt, Use, Nothing, Control, Object, Entries, IsEntryPage, IsDir, wanted}
+use Rattle.zo_model.specs.CofferWords.{CofferAt, Use, Nothing, Control, Object, Entries, IsEntryPage, wanted}
 use Rattle.zo_laws.proofs.Chains.{one_chain}
 use Rattle.zo_units.specs.Memory.{Memory, at}
 use Rattle.zo_units.specs.Units.{Commitment, Lasts, IsOpen, back, wanted_before, MayStand, IsSound}
 use Rattle.zo_units.specs.UnitLaws.{AllTold, IsAside, IsFreeEntry, MayStore, Useless, Side, ControlWord, FreeEntry, Front, AsideLaw}
-use Rattle.zo_units.proofs.Nodes.{IsTold, told}
+use Rattle.zo_units.proofs.Nodes.{told}
 
 -- an entry that is reached has a place
 pub reached_place : (words : ℕ → ℕ) (P : ℕ → Type 0) (dir : ℕ) (want : List ℕ → Option ℕ) (entry : ℕ) → Shows words P dir want → IsReached words dir entry → IsPlace P entry
@@ -120,20 +120,20 @@ module _ (m : Memory) (coffer : CofferAt) (tree : List Member) (page_of : List (
         ap use_of (let page : a / 4096 ≡ place.page = (let is = place.is in let twelve = place.twelve in omega (arith, e, few, is, twelve)) in page) ∙ place.entries.entries
 
     -- a word beside a directory's names
-    beside : (a : ℕ) (names : List (List ℕ)) (i : ℕ) → IsDir tree names → 1 ≤ i → i ≤ 5 → addr / 8 ≡ word_of (page_at (page_of names)) i / 8 → a / 8 ≡ addr / 8 → Tells a → ⊥
+    beside : (a : ℕ) (names : List (List ℕ)) (i : ℕ) → MayStand m tree lasts names Directory → 1 ≤ i → i ≤ 5 → addr / 8 ≡ word_of (page_at (page_of names)) i / 8 → a / 8 ≡ addr / 8 → Tells a → ⊥
     beside a names i dir some few there same (OfIntent e) =
         control_object names (sym (told (at m) coffer tree page_of use_of s.denotes).control
-        ∙ ap use_of (let page : coffer.control ≡ page_of names = omega (arith, e, same, there, few) in page) ∙ (s.members names Directory (inl dir)).member.object)
+        ∙ ap use_of (let page : coffer.control ≡ page_of names = omega (arith, e, same, there, few) in page) ∙ (s.members names Directory dir).member.object)
     beside a names i dir some few there same (OfKind ns node may e) = omega (arith, e, same, there, some, few)
     beside a names i dir some few there same (OfMap ns bytes may e) =
         let page : page_of ns ≡ page_of names = omega (arith, e, same, there, few) in
         let one : at m (page_kind (page_at (page_of ns))) ≡ 1 = (s.members ns (FileOf bytes) may).member.shown.0 in
-        let zero_is : at m (page_kind (page_at (page_of names))) ≡ 0 = (s.members names Directory (inl dir)).member.shown.0 in
+        let zero_is : at m (page_kind (page_at (page_of names))) ≡ 0 = (s.members names Directory dir).member.shown.0 in
         let both : 1 ≡ 0 = sym one ∙ ap (λ (p : ℕ). at m (page_kind (page_at p))) page ∙ zero_is in
         omega (arith, both)
     beside a names i dir some few there same (OfHead ns b may low e) = omega (arith, e, same, there, some, few, low)
     beside a names i dir some few there same (OfEntry ns entry j may place reached low e) =
-        object_entries names ns (sym (ap use_of (let page : a / 4096 ≡ page_of names = omega (arith, same, there, few) in page) ∙ (s.members names Directory (inl dir)).member.object) ∙ entries_at a ns entry j place low e)
+        object_entries names ns (sym (ap use_of (let page : a / 4096 ≡ page_of names = omega (arith, same, there, few) in page) ∙ (s.members names Directory dir).member.object) ∙ entries_at a ns entry j place low e)
 
     -- a word of a page of entries
     in_entries : (a : ℕ) (names : List (List ℕ)) → use_of (addr / 4096) ≡ Entries names → a / 8 ≡ addr / 8 → ((ns : List (List ℕ)) (entry i : ℕ) → IsPlace (EntryPages ns) entry → IsReachedNow ns entry → i < 40 → a ≡ word_of entry i → ⊥) → Tells a → ⊥
@@ -144,7 +144,7 @@ module _ (m : Memory) (coffer : CofferAt) (tree : List Member) (page_of : List (
     in_entries a names is same other (OfHead ns b may low e) = object_entries ns names (sym (object_at a ns Directory may (omega (arith, e, low))) ∙ use_there a (Entries names) same is)
     in_entries a names is same other (OfEntry ns entry i may place reached few e) = other ns entry i place reached few e
 
-    free_entry : (a : ℕ) (names : List (List ℕ)) (entry i : ℕ) → IsFreeEntry m coffer tree page_of use_of lasts names entry → i < 40 → addr / 8 ≡ word_of entry i / 8 → a / 8 ≡ addr / 8 → Tells a → ⊥
+    free_entry : (a : ℕ) (names : List (List ℕ)) (entry i : ℕ) → IsFreeEntry m coffer page_of use_of lasts names entry → i < 40 → addr / 8 ≡ word_of entry i / 8 → a / 8 ≡ addr / 8 → Tells a → ⊥
     free_entry a names entry i free few there same tells = in_entries a names is same other tells
       where
         p : IsPlace (EntryPages names) entry

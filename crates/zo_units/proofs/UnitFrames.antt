@@ -1,22 +1,20 @@
 -- One unit beside others: it stays a unit where its words are spared, and what they show is wanted as before.
-use Rattle.std.proofs.Common.{◌≡◌, ◌≢◌, ◌⊎◌, inl, inr, ℕ, zero, suc, ◌+◌, ◌-◌, ◌/◌, ◌≤◌, ◌<◌, ◌==◌, Bool, true, false, cond, if◌then◌else◌, List, [], ◌∷◌, ◌++◌, length, drop, map, slice_index_or, Contains, Option, Some, None, refl, sym, ap, ap₂, subst, ◌∙◌, arith}
+use Rattle.std.proofs.Common.{◌≡◌, ◌⊎◌, inl, inr, ℕ, zero, suc, ◌+◌, ◌-◌, ◌/◌, ◌≤◌, ◌<◌, ◌==◌, if◌then◌else◌, List, [], ◌∷◌, ◌++◌, length, drop, slice_index_or, Contains, Option, Some, None, refl, sym, ap, ap₂, subst, ◌∙◌, arith}
 use Rattle.std.proofs.lemmas.Bool.{cases_lt}
-use Rattle.std.specs.List.{list_any}
 use Rattle.pm_words.specs.Word.{Word}
-use Rattle.zo_layout.specs.Layout.{page_at, bucket_head, word_of, next_entry, control_intent, page_kind, file_map}
-use Rattle.zo_model.specs.Tree.{Member, Node, Directory, FileOf, node_at, same_names}
+use Rattle.zo_layout.specs.Layout.{page_at, bucket_head, word_of, next_entry, page_kind, file_map}
+use Rattle.zo_model.specs.Tree.{Member, Node, Directory, FileOf}
 use Rattle.zo_model.specs.Directory.{Shows, IsReached, Leads}
-use Rattle.zo_model.specs.CofferWords.{CofferAt, Use, Control, Object, Entries, IsEntryPage, IsNode, IsMember, IsInLimits, IsDir, target_of, wanted}
+use Rattle.zo_model.specs.CofferWords.{CofferAt, Use, IsEntryPage}
 use Rattle.zo_laws.specs.Laws.{KeepsNames}
 use Rattle.zo_laws.proofs.Chains.{leads_stay}
 use Rattle.zo_laws.proofs.Directories.{shows_stay, reached_before}
 use Rattle.zo_laws.proofs.PageLemmas.{shows_want}
 use Rattle.zo_units.specs.Memory.{Memory, at, floor, value_at, IsClean, IsTidy}
 use Rattle.zo_units.specs.MemoryLaws.{Rises, Spares}
-use Rattle.zo_units.specs.Units.{Undo, Commitment, Lasts, IsOpen, IsStill, above, node_before, back, IsBut, CleanBut, IsFirm, IsFirmNode, wanted_before, IsLink, Head, Next, IsPending, IsUnit, MayStand, Stood, IsBare, MayReturn, Stands, DenotesBy, IsSound}
-use Rattle.zo_units.specs.UnitLaws.{AllTold, SpareLaw, GrowLaw, UseLaw, Grows, put_use}
-use Rattle.zo_units.proofs.Places.{length_dropped, dropped_none, empty_is, still_rises}
-use Rattle.zo_units.proofs.Nodes.{still_none, still_durable, IsTold, told, denotes_by}
+use Rattle.zo_units.specs.Units.{Commitment, IsOpen, IsStill, back, CleanBut, IsFirm, IsFirmNode, wanted_before, IsLink, Head, Next, IsPending, IsUnit}
+use Rattle.zo_units.proofs.Places.{length_dropped, dropped_none, empty_is}
+use Rattle.zo_units.proofs.Nodes.{still_none, still_durable}
 
 drop_same : (n : ℕ) (xs : List ℕ) → length xs - n ≡ length xs → drop n xs ≡ xs
 drop_same zero xs e = refl
@@ -176,4 +174,3 @@ module _ (m n : Memory) (coffer grown : CofferAt) (tree larger : List Member) (p
 
   pub unit_moved : IsUnit n grown larger pages_of now_of names last
   unit_moved = record { settled = λ still. subst (λ (q : ℕ). IsFirm n None (at n) (page_at q)) page (settled_now still); pending = λ c is opened. pending_now c is opened }
-

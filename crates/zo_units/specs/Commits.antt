@@ -1,5 +1,5 @@
 -- The commit of a link: one store, which leads a bucket to an entry that was prepared for a new file or directory.
-use Rattle.std.specs.Prelude.{◌≡◌, ℕ, ◌+◌, ◌<◌, List, [], ◌∷◌, ◌++◌, false, Contains, Option, Some, None, if◌then◌else◌, ◌==◌}
+use Rattle.std.specs.Prelude.{◌≡◌, ℕ, ◌+◌, ◌<◌, List, [], ◌∷◌, ◌++◌, false, Contains, Some, None, if◌then◌else◌}
 use Rattle.std.specs.List.{list_any}
 use Rattle.zo_layout.specs.Layout.{page_at, word_of, bucket_head, bucket_of, entry_target, file_map, next_entry, page_kind}
 use Rattle.zo_model.specs.Commands.{IsName}
@@ -7,7 +7,7 @@ use Rattle.zo_model.specs.Tree.{Member, Node, Directory, FileOf, node_at, same_n
 use Rattle.zo_model.specs.Directory.{IsPlace, IsReached, name_at}
 use Rattle.zo_model.specs.CofferWords.{CofferAt, Use, Nothing, Object, IsEntryPage, IsDir, IsInLimits}
 use Rattle.zo_units.specs.Memory.{Memory, at, IsClean, stored_in}
-use Rattle.zo_units.specs.Units.{Commitment, Undo, Lasts, IsOpen, IsStill, above, node_before, IsSound}
+use Rattle.zo_units.specs.Units.{Commitment, Lasts, IsOpen, IsStill, above, node_before, IsSound}
 use Rattle.zo_units.specs.UnitLaws.{put_use}
 
 -- The page has the words of an empty file or directory, and they are durable.

@@ -7,7 +7,7 @@ use Rattle.pm_words.specs.Memory.{word_at}
 use Rattle.pm_words.specs.Word.{Word, crash_list}
 use Rattle.pm_words.specs.declared.choice.Choice.{Choice}
 use Rattle.pm_words.specs.declared.choice.Choice.TheVariants as pick
-use Rattle.zo_units.specs.Memory.{Memory, Event, Store, Exchange, Flush, Fence, at, floor, marked, IsClean, IsTidy, IsLeft, after, flushed_in, fenced_in, memory_of, words_after, tops_after}
+use Rattle.zo_units.specs.Memory.{Memory, Event, Store, Exchange, Flush, Fence, at, floor, marked, IsTidy, IsLeft, after, flushed_in, fenced_in, memory_of, words_after, tops_after}
 use Rattle.zo_units.specs.Units.{Commitment, IsOpen, IsStill}
 
 -- what is stored goes to a word of the list

@@ -1,11 +1,14 @@
 -- Laws of the units of a coffer: what a crash leaves, and what keeps them sound.
-use Rattle.std.specs.Prelude.{◌≡◌, ◌≢◌, ◌⊎◌, ℕ, ◌/◌, ◌≤◌, ◌<◌, ◌==◌, List, Bool, Contains, Option, Some, if◌then◌else◌}
+use Rattle.std.specs.Prelude.{◌≡◌, ◌≢◌, ◌⊎◌, ℕ, ◌/◌, ◌≤◌, ◌<◌, ◌==◌, List, Bool, Contains, Some, None, if◌then◌else◌}
+use Rattle.pm_words.specs.Crash.{after_crash}
+use Rattle.pm_words.specs.Word.{Word}
+use Rattle.pm_words.specs.declared.choice.Choice.{Choice}
 use Rattle.zo_layout.specs.Layout.{page_at, word_of, bucket_head, control_intent, file_map, page_kind}
 use Rattle.zo_model.specs.Tree.{Member, Node, Directory, FileOf}
 use Rattle.zo_model.specs.Directory.{IsPlace, IsReached}
-use Rattle.zo_model.specs.CofferWords.{CofferAt, Use, Nothing, Entries, IsEntryPage, IsDir}
-use Rattle.zo_units.specs.Memory.{Memory, at, IsTidy, IsLeft, stored_in, exchanged_in, flushed_in, fenced_in}
-use Rattle.zo_units.specs.MemoryLaws.{Rises, Spares}
+use Rattle.zo_model.specs.CofferWords.{CofferAt, Use, Nothing, Entries, IsEntryPage}
+use Rattle.zo_units.specs.Memory.{Memory, at, IsClean, IsTidy, IsLeft, stored_in, exchanged_in, flushed_in, fenced_in, memory_of}
+use Rattle.zo_units.specs.MemoryLaws.{Rises, Spares, crash_places}
 use Rattle.zo_units.specs.Units.{Commitment, Lasts, IsOpen, IsLeftTree, Drops, dropped, back, MayStand, DenotesBy, IsSound}
 
 -- whatever a crash leaves denotes the tree without the last commits that it loses
@@ -34,8 +37,7 @@ abbrev pub IsAside : Memory → CofferAt → List Member → (List (List ℕ) �
 IsAside m coffer tree page_of lasts addr = AllTold (λ a. a / 8 ≢ addr / 8) m coffer tree page_of lasts
 
 -- a word of an entry that no chain reaches, as the words are or without the open commit
-pub record IsFreeEntry (m : Memory) (coffer : CofferAt) (tree : List Member) (page_of : List (List ℕ) → ℕ) (use_of : ℕ → Use) (lasts : Lasts) (names : List (List ℕ)) (entry : ℕ) : Type 0 where
-  pub dir : IsDir tree names
+pub record IsFreeEntry (m : Memory) (coffer : CofferAt) (page_of : List (List ℕ) → ℕ) (use_of : ℕ → Use) (lasts : Lasts) (names : List (List ℕ)) (entry : ℕ) : Type 0 where
   pub place : IsPlace (IsEntryPage coffer use_of names) entry
   pub unreached : IsReached (at m) (page_at (page_of names)) entry → ⊥
   pub before : (c : Commitment) → lasts names ≡ Some c → IsOpen m c → IsReached (back m c) (page_at (page_of names)) entry → ⊥
@@ -44,12 +46,12 @@ pub record IsFreeEntry (m : Memory) (coffer : CofferAt) (tree : List Member) (pa
 pub data MayStore (m : Memory) (coffer : CofferAt) (tree : List Member) (page_of : List (List ℕ) → ℕ) (use_of : ℕ → Use) (lasts : Lasts) (addr : ℕ) : Type 0 where
   -- a page of no use
   Useless : use_of (addr / 4096) ≡ Nothing → MayStore m coffer tree page_of use_of lasts addr
-  -- a directory's lease, note, counter, and its words for entry pages and free entries
-  Side : (names : List (List ℕ)) (i : ℕ) → IsDir tree names → 1 ≤ i → i ≤ 5 → addr / 8 ≡ word_of (page_at (page_of names)) i / 8 → MayStore m coffer tree page_of use_of lasts addr
+  -- the lease, note and counter of a directory, and its words for entry pages and free entries; also where an open commit has removed it
+  Side : (names : List (List ℕ)) (i : ℕ) → MayStand m tree lasts names Directory → 1 ≤ i → i ≤ 5 → addr / 8 ≡ word_of (page_at (page_of names)) i / 8 → MayStore m coffer tree page_of use_of lasts addr
   -- a control page's leases and pools
   ControlWord : addr / 4096 ≡ coffer.control → addr / 8 ≢ control_intent (page_at coffer.control) / 8 → MayStore m coffer tree page_of use_of lasts addr
   -- a free entry
-  FreeEntry : (names : List (List ℕ)) (entry i : ℕ) → IsFreeEntry m coffer tree page_of use_of lasts names entry → i < 40 → addr / 8 ≡ word_of entry i / 8 → MayStore m coffer tree page_of use_of lasts addr
+  FreeEntry : (names : List (List ℕ)) (entry i : ℕ) → IsFreeEntry m coffer page_of use_of lasts names entry → i < 40 → addr / 8 ≡ word_of entry i / 8 → MayStore m coffer tree page_of use_of lasts addr
   -- a word of an entry page in front of its entries
   Front : (names : List (List ℕ)) → use_of (addr / 4096) ≡ Entries names → addr / 8 < word_of (page_at (addr / 4096)) 32 / 8 → MayStore m coffer tree page_of use_of lasts addr
 
@@ -100,3 +102,15 @@ abbrev pub UseLaw : Type 0
 UseLaw = (m : Memory) (coffer : CofferAt) (tree : List Member) (page_of : List (List ℕ) → ℕ) (use_of : ℕ → Use) (lasts : Lasts) (page : ℕ) (new : Use)
     → (use_of page ≡ Nothing) ⊎ ((Contains coffer.pages page → ⊥) × (page ≢ coffer.control))
     → IsSound m coffer tree page_of use_of lasts → IsSound m coffer tree page_of (put_use use_of page new) lasts
+
+-- Where the words of a coffer's pages are durable, it is sound, and no unit has a commit.
+abbrev pub StartLaw : Type 0
+StartLaw = (m : Memory) (coffer : CofferAt) (tree : List Member) (page_of : List (List ℕ) → ℕ) (use_of : ℕ → Use)
+    → IsTidy m → ((a : ℕ) → Contains coffer.pages (a / 4096) ⊎ (a / 4096 ≡ coffer.control) → IsClean m a) → DenotesBy (at m) coffer tree page_of use_of
+    → IsSound m coffer tree page_of use_of (λ names. None)
+
+-- After a crash the coffer is sound again, with the tree without the last commits that were lost.
+abbrev pub RecoverLaw : Type 0
+RecoverLaw = (choice : Choice) (words : List Word) (tops later : ℕ → ℕ) (coffer : CofferAt) (tree other : List Member) (page_of : List (List ℕ) → ℕ) (use_of : ℕ → Use) (lasts : Lasts) (drop : ℕ → Bool)
+    → IsSound (memory_of words tops) coffer tree page_of use_of lasts → Drops (crash_places choice (memory_of words tops)) lasts drop → IsLeftTree drop lasts tree other
+    → IsSound (memory_of (after_crash choice words) later) coffer other page_of use_of (λ names. None)

@@ -1,6 +1,6 @@
 -- The units of a coffer are its directories. The last commit of each may still be lost in a crash, alone: what the words
 -- denote then is the tree with what stood before at the paths that this commit changed.
-use Rattle.std.specs.Prelude.{◌≡◌, ◌≢◌, ◌⊎◌, ℕ, ◌+◌, ◌/◌, ◌%◌, ◌≤◌, ◌<◌, ◌==◌, nat_lt, List, [], ◌∷◌, ◌++◌, map, Bool, true, false, Contains, Option, Some, None, if◌then◌else◌}
+use Rattle.std.specs.Prelude.{◌≡◌, ◌⊎◌, ℕ, ◌+◌, ◌/◌, ◌<◌, ◌==◌, nat_lt, List, [], ◌∷◌, ◌++◌, map, Bool, false, Contains, Option, Some, None, if◌then◌else◌}
 use Rattle.std.specs.List.{IsDistinct, list_any}
 use Rattle.zo_layout.specs.Layout.{page_at, word_of, bucket_head, next_entry, control_intent, file_map, page_kind}
 use Rattle.zo_model.specs.Tree.{Member, Node, Directory, FileOf, node_at, same_names}

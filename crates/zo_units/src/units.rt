@@ -1,6 +1,6 @@
 // The units of a coffer.
 ghost use Rattle.zo_units.specs.Commits.{CommitLaw};
-ghost use Rattle.zo_units.specs.UnitLaws.{AsideLaw, DropsLaw, FlushLaw, GrowLaw, SpareLaw, StoreLaw, SurviveLaw, UseLaw};
+ghost use Rattle.zo_units.specs.UnitLaws.{AsideLaw, DropsLaw, FlushLaw, GrowLaw, RecoverLaw, SpareLaw, StartLaw, StoreLaw, SurviveLaw, UseLaw};
 
 /// Whatever a crash leaves denotes the tree without the last commits that it loses.
 pub fn survive_law()
@@ -45,4 +45,14 @@ pub fn use_law()
 /// The commit of a link leaves all sound, with the new member, and the commit as its directory's last one.
 pub fn commit_law()
     ensures { CommitLaw }
+{}
+
+/// A coffer whose words are durable is sound, without a commit.
+pub fn start_law()
+    ensures { StartLaw }
+{}
+
+/// After a crash a coffer is sound again.
+pub fn recover_law()
+    ensures { RecoverLaw }
 {}
