@@ -339,3 +339,34 @@ module _ (at : ℕ → ℕ) (coffer : CofferAt) (tree : List Member) (d : Denote
 
 pub names_counted : NamesCounted
 names_counted at coffer tree d names count dir once h = counted at coffer tree d names count dir once h
+
+-- trees that have the same members directly under these names have as many there
+within_other : (names : List (List ℕ)) (tree other : List Member) → ((name : List ℕ) → node_at other (names ++ name ∷ []) ≡ node_at tree (names ++ name ∷ []))
+    → (name : List ℕ) → Contains (lasts names (paths_of tree)) name → Contains (lasts names (paths_of other)) name
+within_other names tree other same name has =
+    let m = among_member tree (names ++ name ∷ []) (last_among names (paths_of tree) name has) in
+    among_last names (paths_of other) name (member_among other (names ++ name ∷ []) m.0 (same name ∙ m.1))
+
+pub children_same : (names : List (List ℕ)) (tree other : List Member) → IsDistinct same_names (map (λ m. m.names) tree) → IsDistinct same_names (map (λ m. m.names) other)
+    → ((name : List ℕ) → node_at other (names ++ name ∷ []) ≡ node_at tree (names ++ name ∷ [])) → length (filter (is_child names) other) ≡ length (filter (is_child names) tree)
+unfolding paths_of
+children_same names tree other once once_too same =
+    let few = no_longer (lasts names (paths_of other)) (lasts names (paths_of tree)) (lasts_distinct names (paths_of other) once_too) (within_other names other tree (λ name. sym (same name))) in
+    let many = no_longer (lasts names (paths_of tree)) (lasts names (paths_of other)) (lasts_distinct names (paths_of tree) once) (within_other names tree other same) in
+    let one = children_as_paths names tree in
+    let two = children_as_paths names other in
+    omega (arith, few, many, one, two)
+
+-- a member more directly under these names
+pub children_more : (names : List (List ℕ)) (name : List ℕ) (node : Node) (tree : List Member)
+    → length (filter (is_child names) (tree ++ record { names = names ++ name ∷ []; node = node } ∷ [])) ≡ length (filter (is_child names) tree) + 1
+children_more names name node [] =
+    let one : Member = record { names = names ++ name ∷ []; node = node } in
+    let none : List Member = [] in
+    ap (λ (b : Bool). length (cond b (one ∷ none) none)) (under_push names name)
+children_more names name node (m ∷ tree) = by (is_child names m) (children_more names name node tree)
+  where
+    by : (b : Bool) → length (filter (is_child names) (tree ++ record { names = names ++ name ∷ []; node = node } ∷ [])) ≡ length (filter (is_child names) tree) + 1
+        → length (cond b (m ∷ filter (is_child names) (tree ++ record { names = names ++ name ∷ []; node = node } ∷ [])) (filter (is_child names) (tree ++ record { names = names ++ name ∷ []; node = node } ∷ []))) ≡ length (cond b (m ∷ filter (is_child names) tree) (filter (is_child names) tree)) + 1
+    by true rest = omega (arith, rest)
+    by false rest = rest

@@ -18,3 +18,5 @@ pub mod Lists
 pub mod Linked
 -- a coffer whose words are durable, and after a crash
 pub mod Starts
+-- how many names a directory has
+pub mod Counts

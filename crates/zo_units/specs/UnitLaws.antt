@@ -1,10 +1,11 @@
 -- Laws of the units of a coffer: what a crash leaves, and what keeps them sound.
-use Rattle.std.specs.Prelude.{◌≡◌, ◌≢◌, ◌⊎◌, ℕ, ◌/◌, ◌≤◌, ◌<◌, ◌==◌, List, Bool, Contains, Some, None, if◌then◌else◌}
+use Rattle.std.specs.Prelude.{◌≡◌, ◌≢◌, ◌⊎◌, ℕ, ◌+◌, ◌/◌, ◌≤◌, ◌<◌, ◌==◌, List, [], ◌∷◌, ◌++◌, length, map, filter, Bool, true, false, Contains, Some, None, if◌then◌else◌}
+use Rattle.std.specs.List.{IsDistinct}
 use Rattle.pm_words.specs.Crash.{after_crash}
 use Rattle.pm_words.specs.Word.{Word}
 use Rattle.pm_words.specs.declared.choice.Choice.{Choice}
 use Rattle.zo_layout.specs.Layout.{page_at, word_of, bucket_head, control_intent, file_map, page_kind}
-use Rattle.zo_model.specs.Tree.{Member, Node, Directory, FileOf}
+use Rattle.zo_model.specs.Tree.{Member, Node, Directory, FileOf, node_at, same_names, is_child}
 use Rattle.zo_model.specs.Directory.{IsPlace, IsReached}
 use Rattle.zo_model.specs.CofferWords.{CofferAt, Use, Nothing, Entries, IsEntryPage}
 use Rattle.zo_units.specs.Memory.{Memory, at, IsClean, IsTidy, IsLeft, stored_in, exchanged_in, flushed_in, fenced_in, memory_of}
@@ -114,3 +115,12 @@ abbrev pub RecoverLaw : Type 0
 RecoverLaw = (choice : Choice) (words : List Word) (tops later : ℕ → ℕ) (coffer : CofferAt) (tree other : List Member) (page_of : List (List ℕ) → ℕ) (use_of : ℕ → Use) (lasts : Lasts) (drop : ℕ → Bool)
     → IsSound (memory_of words tops) coffer tree page_of use_of lasts → Drops (crash_places choice (memory_of words tops)) lasts drop → IsLeftTree drop lasts tree other
     → IsSound (memory_of (after_crash choice words) later) coffer other page_of use_of (λ names. None)
+
+-- How many names a directory has without the dropped commits: as many as it has, where its last commit isn't dropped; and one
+-- less where that is dropped and has made one.
+pub record CountLaw : Type 0 where
+  pub kept : (drop : ℕ → Bool) (lasts : Lasts) (tree other : List Member) (names : List (List ℕ)) → IsDistinct same_names (map (λ m. m.names) tree) → IsLeftTree drop lasts tree other
+      → ((c : Commitment) → lasts names ≡ Some c → drop c.position ≡ false) → length (filter (is_child names) other) ≡ length (filter (is_child names) tree)
+  pub made : (drop : ℕ → Bool) (lasts : Lasts) (tree other : List Member) (names : List (List ℕ)) (name : List ℕ) (node : Node) (c : Commitment) → IsDistinct same_names (map (λ m. m.names) tree)
+      → IsLeftTree drop lasts tree other → lasts names ≡ Some c → drop c.position ≡ true → c.undo ≡ record { names = names ++ name ∷ []; node = None } ∷ [] → node_at tree (names ++ name ∷ []) ≡ Some node
+      → length (filter (is_child names) tree) ≡ length (filter (is_child names) other) + 1

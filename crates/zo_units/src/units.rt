@@ -1,6 +1,6 @@
 // The units of a coffer.
 ghost use Rattle.zo_units.specs.Commits.{CommitLaw};
-ghost use Rattle.zo_units.specs.UnitLaws.{AsideLaw, DropsLaw, FlushLaw, GrowLaw, RecoverLaw, SpareLaw, StartLaw, StoreLaw, SurviveLaw, UseLaw};
+ghost use Rattle.zo_units.specs.UnitLaws.{AsideLaw, CountLaw, DropsLaw, FlushLaw, GrowLaw, RecoverLaw, SpareLaw, StartLaw, StoreLaw, SurviveLaw, UseLaw};
 
 /// Whatever a crash leaves denotes the tree without the last commits that it loses.
 pub fn survive_law()
@@ -55,4 +55,9 @@ pub fn start_law()
 /// After a crash a coffer is sound again.
 pub fn recover_law()
     ensures { RecoverLaw }
+{}
+
+/// How many names a directory has without the commits that a crash loses.
+pub fn count_law()
+    ensures { CountLaw }
 {}
