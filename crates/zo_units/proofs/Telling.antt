@@ -7,7 +7,7 @@ use Rattle.zo_model.specs.CofferWords.{CofferAt, Use, Nothing, Control, Object, 
 use Rattle.zo_laws.proofs.Chains.{one_chain}
 use Rattle.zo_units.specs.Memory.{Memory, at}
 use Rattle.zo_units.specs.Units.{Commitment, Lasts, IsOpen, back, wanted_before, MayStand, IsSound}
-use Rattle.zo_units.specs.UnitLaws.{AllTold, IsAside, IsFreeEntry, MayStore, Useless, Side, ControlWord, FreeEntry, Front, AsideLaw}
+use Rattle.zo_units.specs.UnitLaws.{AllTold, IsAside, IsFreeEntry, MayStore, Outside, Useless, Side, ControlWord, FreeEntry, Front, AsideLaw}
 use Rattle.zo_units.proofs.Nodes.{told}
 
 -- an entry that is reached has a place
@@ -97,16 +97,16 @@ module _ (m : Memory) (coffer : CofferAt) (tree : List Member) (page_of : List (
       AsEntries names (subst (Contains coffer.pages) (sym page) place.entries.coffers) (ap use_of page ∙ place.entries.entries)
 
   module _ (addr : ℕ) where
-    -- a page of another use
-    not_control : (a : ℕ) → a / 8 ≡ addr / 8 → use_of (addr / 4096) ≡ Control → ((a / 4096 ≡ coffer.control) → ⊥) → Serves a → ⊥
-    not_control a same is other (AsControl page u) = other page
-    not_control a same is other (AsObject names has u) = control_object names (sym is ∙ ap use_of (let page : addr / 4096 ≡ a / 4096 = omega (arith, same) in page) ∙ u)
-    not_control a same is other (AsEntries names has u) = control_entries names (sym is ∙ ap use_of (let page : addr / 4096 ≡ a / 4096 = omega (arith, same) in page) ∙ u)
-
+    -- a page of no use, and one that isn't the coffer's
     not_useless : (a : ℕ) → a / 8 ≡ addr / 8 → use_of (addr / 4096) ≡ Nothing → Serves a → ⊥
     not_useless a same is (AsControl page u) = nothing_control (sym is ∙ ap use_of (let page : addr / 4096 ≡ a / 4096 = omega (arith, same) in page) ∙ u)
     not_useless a same is (AsObject names has u) = nothing_object names (sym is ∙ ap use_of (let page : addr / 4096 ≡ a / 4096 = omega (arith, same) in page) ∙ u)
     not_useless a same is (AsEntries names has u) = nothing_entries names (sym is ∙ ap use_of (let page : addr / 4096 ≡ a / 4096 = omega (arith, same) in page) ∙ u)
+
+    outside : (a : ℕ) → a / 8 ≡ addr / 8 → (Contains coffer.pages (addr / 4096) → ⊥) → addr / 4096 ≢ coffer.control → Serves a → ⊥
+    outside a same other apart (AsControl page u) = apart (let there : addr / 4096 ≡ a / 4096 = omega (arith, same) in there ∙ page)
+    outside a same other apart (AsObject names has u) = other (subst (Contains coffer.pages) (let there : a / 4096 ≡ addr / 4096 = omega (arith, same) in there) has)
+    outside a same other apart (AsEntries names has u) = other (subst (Contains coffer.pages) (let there : a / 4096 ≡ addr / 4096 = omega (arith, same) in there) has)
 
     -- the use of the page of a word at the same place
     use_there : (a : ℕ) (u : Use) → a / 8 ≡ addr / 8 → use_of (addr / 4096) ≡ u → use_of (a / 4096) ≡ u
@@ -190,6 +190,7 @@ module _ (m : Memory) (coffer : CofferAt) (tree : List Member) (page_of : List (
         control_entries ns (sym (use_there a Control same (ap use_of page ∙ (told (at m) coffer tree page_of use_of s.denotes).control)) ∙ entries_at a ns entry i place few e)
 
     apart : MayStore m coffer tree page_of use_of lasts addr → (a : ℕ) → Tells a → a / 8 ≢ addr / 8
+    apart (Outside other control) a tells = λ same. outside a same other control (serves a tells)
     apart (Useless is) a tells = λ same. not_useless a same is (serves a tells)
     apart (Side names i dir some few there) a tells = λ same. beside a names i dir some few there same tells
     apart (ControlWord page other) a tells = λ same. control_word a page other same tells

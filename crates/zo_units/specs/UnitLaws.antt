@@ -45,7 +45,8 @@ pub record IsFreeEntry (m : Memory) (coffer : CofferAt) (page_of : List (List �
 
 -- an address that a call may store to beside its commit
 pub data MayStore (m : Memory) (coffer : CofferAt) (tree : List Member) (page_of : List (List ℕ) → ℕ) (use_of : ℕ → Use) (lasts : Lasts) (addr : ℕ) : Type 0 where
-  -- a page of no use
+  -- a page that isn't the coffer's, or one of no use
+  Outside : (Contains coffer.pages (addr / 4096) → ⊥) → addr / 4096 ≢ coffer.control → MayStore m coffer tree page_of use_of lasts addr
   Useless : use_of (addr / 4096) ≡ Nothing → MayStore m coffer tree page_of use_of lasts addr
   -- the lease, note and counter of a directory, and its words for entry pages and free entries; also where an open commit has removed it
   Side : (names : List (List ℕ)) (i : ℕ) → MayStand m tree lasts names Directory → 1 ≤ i → i ≤ 5 → addr / 8 ≡ word_of (page_at (page_of names)) i / 8 → MayStore m coffer tree page_of use_of lasts addr
