@@ -65,6 +65,9 @@ with_thread thread process kernel = record kernel { callers = record { processes
 abbrev pub without_maps : ℕ → KernelView → KernelView
 without_maps process kernel = record kernel { holders = without_process kernel.callers.threads process kernel.holders }
 
+abbrev pub without_any_maps : KernelView → KernelView
+without_any_maps kernel = record kernel { holders = [] }
+
 -- the process was started
 abbrev pub has_process : Callers → ℕ → Bool
 has_process callers process = list_any (λ p. p.0 == process) callers.processes

@@ -73,6 +73,13 @@ impl Kernel {
         self.tables.drop_process(process);
     }
 
+    /// Ends all maps. Takes no memory.
+    pub fn end_all(&mut self)
+        ensures { self.new ≡ spec.without_any_maps self.old }
+    {
+        self.tables.drop_all();
+    }
+
     /// Whether a process was started. Takes no memory.
     pub fn has_process(&self, process: u8) -> bool
         ensures { result ≡ spec.has_process self.now.callers process }
@@ -80,9 +87,10 @@ impl Kernel {
         self.processes.iter().any(|started| started.0 == process)
     }
 
-    /// The process of a thread; none where it wasn't started. Takes no memory.
+    /// The process of a thread, which was started; none where the thread wasn't. Takes no memory.
     pub fn process_of(&self, thread: u16) -> Option<u8>
-        ensures { result ≡ rights.process_of self.now.callers.threads thread }
+        ensures process { result ≡ rights.process_of self.now.callers.threads thread }
+        ensures started { (process : ℕ) → rights.process_of self.now.callers.threads thread ≡ Some process → Contains (map (λ p. p.0) self.now.callers.processes) process }
     {
         self.tables.process_of(thread)
     }

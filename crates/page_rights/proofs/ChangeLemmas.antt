@@ -82,6 +82,24 @@ kept_put processes old new mappings here coffer small bound places kept others p
         ∙ sym (others process id elsewhere)
 
 module _ (threads : List (ℕ × ℕ)) (processes : List (Option ℕ)) (holders : List Holder) (mappings : List (Option Mapping)) (tied : TablesAgree threads processes holders mappings) where
+  -- No rows.
+
+  pub tied_cleared : (now : List (Option Mapping)) → length now ≡ length mappings → ((k : ℕ) → k < length mappings → get_or now k None ≡ None) → TablesAgree threads processes [] now
+  tied_cleared now len gone = record {
+    numbers = tied.numbers;
+    starts = tied.starts;
+    small = tied.small;
+    rows = All-nil IsRow;
+    row_threads = All-nil (λ h. process_at processes h.thread ≢ None);
+    own = λ process h g has_h has_g in_h in_g. no_row has_h;
+    one_row = λ thread id. omega arith;
+    places = len ∙ tied.places;
+    kept = λ process id small bound. gone (place_of process id) (let places = tied.places in omega (arith, small, bound, places));
+  }
+    where
+      no_row : {h : Holder} {X : Type 0} → Contains [] h → X
+      no_row (k, lt, e) = absurd (omega arith)
+
   -- Fewer rows.
 
   tied_filtered : (keep : Holder → Bool) (now : List (Option Mapping)) → length now ≡ 16448 → ((process id : ℕ) → process < 64 → id ≤ 256 → mapping_at now process id ≡ mapping_of processes (filter keep holders) process id)

@@ -107,6 +107,16 @@ pub fn drop_process(mappings: &mut [Option<Mapping>], process: u8)
     }
 }
 
+/// No process has any coffer mapped.
+pub fn drop_all(mappings: &mut [Option<Mapping>])
+    ensures len { length mappings.new ≡ length mappings.old }
+    ensures gone { (k : ℕ) → k < length mappings.old → slice_index_or mappings.new k None ≡ None }
+{
+    for place in 0..mappings.len() {
+        mappings[place] = None;
+    }
+}
+
 /// The coffer under which a page stands, 0 for none and past the last page.
 pub fn owner_of(owners: &[u16], page: u32) -> u16
     ensures { result ≡ slice_index owners.now page }

@@ -287,6 +287,16 @@ impl Tables {
         mapping::drop_process(&mut self.mappings, process);
     }
 
+    /// Ends all maps. Pages stay under their coffers. Takes no memory.
+    pub fn drop_all(&mut self)
+        ensures after { self.new ≡ spec.with_holders [] self.old }
+        ensures threads_stay { self.new.threads ≡ self.old.threads }
+        ensures pages_stay { length self.new.owners ≡ length self.old.owners }
+    {
+        self.holders.clear();
+        mapping::drop_all(&mut self.mappings);
+    }
+
     // How the process of the thread has the page's coffer mapped.
     fn mapping(&self, thread: u16, page: u32) -> Option<Mapping>
         requires { IsSome (rights.process_of self.now.threads thread) }
