@@ -11,7 +11,8 @@ use Rattle.tr_types.specs.declared.kernel_call.KernAnswer.TheVariants.{NoMemory}
 use Rattle.kern_calls.specs.Calls.{KernelView, MayCall, Answered, IsDone}
 use Rattle.tr_types.specs.declared.action.Action.TheVariants.{Kernel}
 use Rattle.tr_types.specs.declared.action.Answer.TheVariants.{Kern}
-use Rattle.bus_machine.specs.Ties.{bus_of}
+use Rattle.bus_machine.specs.Ties.{ended_by}
+use Rattle.bus_machine.proofs.Viewed.{view_of}
 use Rattle.bus_machine.specs.Steps.{Does}
 
 -- a thread that was started may call
@@ -26,13 +27,15 @@ done_by old words thread now kcall NoMemory new after some answered = absurd (so
 done_by old words thread now kcall answer new after some answered = answered
 
 -- as a step of the bus
-pub does_call : (words : List Word) (kernel : KernelView) (pkrus : List ℕ) (failed : Bool) → failed ≡ false → (thread now : ℕ) (kcall : Kcall) (answer told : KernAnswer) → told ≡ answer → (new : KernelView) (after : List Word)
+pub does_call : (words : List Word) (kernel : KernelView) (pkrus : List ℕ) (down failed : Bool) (thread now : ℕ) (kcall : Kcall) (answer told : KernAnswer) → told ≡ answer → (new : KernelView) (after : List Word)
     → IsDone kernel words thread now kcall answer new after
-    → Does (record { bus = bus_of words kernel pkrus; failed = failed }) (record { bus = bus_of after new pkrus; failed = failed }) thread now (Kernel kcall) (Kern told)
-does_call words kernel pkrus failed works thread now kcall answer told same new after done = record {
+    → Does (view_of words kernel pkrus down failed) (view_of after new pkrus down failed) thread now (Kernel kcall) (Kern told)
+does_call words kernel pkrus down failed thread now kcall answer told same new after done = record {
   answers = same ∙ done.answers;
   after = λ i. record {
     bus = record { words = done.memory i; processes = (done.callers i).processes; threads = (done.callers i).threads; holders = done.holders i; pkrus = pkrus };
-    failed = works i;
+    ended = ended_by down (done.callers i).processes;
+    down = down;
+    failed = failed;
   };
 }

@@ -8,6 +8,8 @@ pub mod Accesses
 mod Stores
 -- the machine as it opens
 mod Opened
+-- what callers see of a bus
+mod Viewed
 -- what a kernel call leaves
 mod Called
 -- what the machine answers

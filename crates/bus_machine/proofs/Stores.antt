@@ -27,7 +27,7 @@ use Rattle.tr_types.specs.declared.kernel_call.Holder.{Holder}
 use Rattle.kern_model.proofs.Idle.{idle_word}
 use Rattle.kern_pages.specs.Owners.{owners_of}
 use Rattle.kern_calls.specs.Calls.{KernelView, IsMounted, IsDone, with_process, with_thread}
-use Rattle.bus_machine.specs.Ties.{bus_of, AreTied}
+use Rattle.bus_machine.specs.Ties.{bus_of, AreTied, IsSoundBus}
 use Rattle.bus_machine.proofs.Started.{small_more}
 use Rattle.bus_machine.proofs.Accesses.{page_inside, stored_word, store_held}
 use Rattle.bus_machine.proofs.Holding.{held_has_id}
@@ -107,6 +107,9 @@ either_way P (Ok v) new good old is other at_good at_old = subst P (sym is) at_g
 either_way P (Err e) new good old other is at_good at_old = subst P (sym is) at_old
 
 -- The same of all that ties a bus together.
+
+pub whole : {words : List Word} {kernel : KernelView} {pkrus : List ℕ} {down failed : Bool} → length pkrus ≡ 256 → ((failed ≡ false) × (down ≡ false) → AreTied words kernel pkrus) → IsSoundBus words kernel pkrus down failed
+whole count tied = record { count = count; tied = tied }
 
 tied_words : (old new : List Word) (kernel : KernelView) (pkrus : List ℕ) → AreTied old kernel pkrus → IsMounted kernel new → AreTied new kernel pkrus
 tied_words old new kernel pkrus tied mounted = record {

@@ -8,4 +8,4 @@ use Rattle.bus_machine.specs.Calls.{with_bus}
 
 pub record Does (old new : MachineView) (thread now : ℕ) (action : Action) (answer : Answer) : Type 0 where
   pub answers : Answers old.bus thread now action answer
-  pub after : new ≡ with_bus (bus_after thread now action answer old.bus)
+  pub after : new ≡ with_bus old (bus_after thread now action answer old.bus)

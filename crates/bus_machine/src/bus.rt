@@ -1,26 +1,29 @@
 // The bus, over which threads reach the memory and the kernel.
-ghost use Rattle.std.specs.Prelude.{◌≡◌, ℕ, ◌<◌, ◌⊎◌, ◌↔◌, length, IfOk, OnOk, IsTrue, false, true};
+ghost use Rattle.std.specs.Prelude.{◌≡◌, ℕ, ◌<◌, ◌⊎◌, ◌↔◌, length, IfOk, OnOk, IsTrue, Some, true};
 ghost use Rattle.std.specs.Result.{IsErrOf};
 ghost use Rattle.pm_words.specs.Memory.{HasPages};
+ghost use Rattle.kern_model.specs.Rights.{process_of};
 ghost use Rattle.kern_model.specs.KernelCalls as calls;
 ghost use Rattle.kern_model.specs.KernelCalls.{IsCall};
 ghost use Rattle.kern_model.specs.KernelRules.{IsFirstFault, IsSoundKernel};
 ghost use Rattle.bus_model.specs.Machine as spec;
 ghost use Rattle.bus_model.specs.Machine.{IsAction, ProcessWasStarted, ThreadWasStarted, callers_of};
 ghost use Rattle.tr_types.specs.declared.action.Action.TheVariants as action;
-ghost use Rattle.bus_machine.specs.Opening.{bus_opened, settled_words};
-ghost use Rattle.bus_machine.specs.Calls.{with_bus};
+ghost use Rattle.bus_machine.specs.Opening.{machine_opened, settled_words};
+ghost use Rattle.bus_machine.specs.Calls.{with_bus, with_crash};
 ghost use Rattle.bus_machine.specs.Steps.{Does};
+ghost use Rattle.bus_machine.specs.Ties.{ended_by};
+ghost use Rattle.bus_machine.specs.View.{IsUp};
 
 use kern_calls::{Kernel, MountFault};
 use kern_laws::store_law;
 use kern_model::NO_THREAD;
 use page_rights::Pkru;
-use pm_words::{NoMemory, Words};
+use pm_words::{Choice, NoMemory, Words};
 use sqlite_items::Boxed;
 use std::alloc::{AllocError, Global};
 use std::marker::Model;
-use tr_types::{Action, Answer, Cred, FaultKind, Kcall, KernAnswer};
+use tr_types::{Action, Answer, Cred, FaultKind, Kcall, KernAnswer, Pick};
 use zo_layout::{PAGE_BYTES, PAGE_WORDS, WORD_BYTES, committed_word};
 
 const THREADS: usize = tr_types::THREADS as usize;
@@ -28,7 +31,8 @@ const THREADS: usize = tr_types::THREADS as usize;
 /// The memory, the kernel over it, which knows who was started, and the registers.
 ///
 /// Where memory runs out in a kernel call, it has failed, and nothing is said of it. Any other step without
-/// memory leaves it as it was.
+/// memory leaves it as it was. After a crash it is down: the kernel tells who was started, and no more, since
+/// its tables may say other than the words.
 #[derive(Drop)]
 pub struct Bus {
     alloc: Global,
@@ -36,25 +40,30 @@ pub struct Bus {
     kernel: Kernel,
     // The register PKRU of each thread, by its number.
     pkrus: Vec<u32>,
+    down: bool,
     failed: bool,
 }
 
 impl Model for Bus {
-    ghost use Rattle.std.specs.Prelude.{◌≡◌, false};
     ghost use Rattle.bus_machine.specs.View.{MachineView};
-    ghost use Rattle.bus_machine.specs.Ties.{bus_of, AreTied};
+    ghost use Rattle.bus_machine.specs.Ties.{bus_of, ended_by, IsSoundBus};
 
     ghost Value = { MachineView };
 
-    ghost view = { λ b. record { bus = bus_of b.words b.kernel b.pkrus.items; failed = b.failed } };
+    ghost view = { λ b. record {
+      bus = bus_of b.words b.kernel b.pkrus.items;
+      ended = ended_by b.down b.kernel.callers.processes;
+      down = b.down;
+      failed = b.failed;
+    } };
 
-    ghost invariant = { λ b. b.failed ≡ false → AreTied b.words b.kernel b.pkrus.items };
+    ghost invariant = { λ b. IsSoundBus b.words b.kernel b.pkrus.items b.down b.failed };
 }
 
 impl Bus {
     /// Over the words of an image of any content, with nothing started.
     pub fn open(alloc: Global, mut words: Words) -> Result<Bus, MountFault>
-        ensures bus { IfOk result (λ b. b ≡ with_bus (bus_opened words)) }
+        ensures bus { IfOk result (λ b. b ≡ machine_opened words) }
         ensures sound { OnOk result (IsSoundKernel words) }
         ensures bad { (place : ℕ) → IsErrOf result (MountFault.BadKernel place) → IsFirstFault words place }
         ensures refuses { (place : ℕ) → IsFirstFault words place → IsErrOf result (MountFault.BadKernel place) ⊎ IsErrOf result MountFault.NoMemory }
@@ -71,6 +80,7 @@ impl Bus {
             words,
             kernel,
             pkrus,
+            down: false,
             failed: false,
         })
     }
@@ -102,14 +112,24 @@ impl Bus {
         self.failed = true;
     }
 
+    /// Whether a crash has come, by which everyone has ended who was started.
+    pub fn is_down(&self) -> bool
+        ensures down { result ≡ self.now.down }
+        ensures ended { self.now.ended ≡ ended_by result self.now.bus.processes }
+    {
+        self.down
+    }
+
     pub fn has_process(&self, process: u8) -> bool
         ensures { IsTrue result ↔ ProcessWasStarted self.now.bus process }
     {
         self.kernel.has_process(process)
     }
 
+    /// Whether the thread was started. Its process was, then.
     pub fn has_thread(&self, thread: u16) -> bool
-        ensures { IsTrue result ↔ ThreadWasStarted self.now.bus thread }
+        ensures was { IsTrue result ↔ ThreadWasStarted self.now.bus thread }
+        ensures housed { (process : ℕ) → process_of self.now.bus.threads thread ≡ Some process → ProcessWasStarted self.now.bus process }
     {
         self.kernel.process_of(thread).is_some()
     }
@@ -122,26 +142,36 @@ impl Bus {
     }
 
     pub fn start_process(&mut self, process: u8, cred: Cred) -> Result<(), NoMemory>
-        requires works { self.old.failed ≡ false }
+        requires works { IsUp self.old }
         requires small { process < 64 }
-        ensures { OnOk result (self.new ≡ with_bus (spec.with_process process cred self.old.bus)) }
+        ensures { OnOk result (self.new ≡ with_bus self.old (spec.with_process process cred self.old.bus)) }
     {
         self.kernel.start_process(process, cred)
     }
 
     pub fn start_thread(&mut self, thread: u16, process: u8) -> Result<(), NoMemory>
-        requires works { self.old.failed ≡ false }
+        requires works { IsUp self.old }
         requires small { thread < 256 }
         requires process { ProcessWasStarted self.old.bus process }
         requires fresh { ThreadWasStarted self.old.bus thread → ⊥ }
-        ensures { OnOk result (self.new ≡ with_bus (spec.with_thread thread process self.old.bus)) }
+        ensures { OnOk result (self.new ≡ with_bus self.old (spec.with_thread thread process self.old.bus)) }
     {
         self.kernel.start_thread(thread, process)
     }
 
+    /// A crash, by which each word takes the value that the pick names. Takes no memory.
+    pub fn crash(&mut self, pick: Pick)
+        ensures { self.new ≡ with_crash pick self.old }
+    {
+        self.words.crash(choice_of(pick));
+        self.kernel.end_all();
+        self.pkrus.fill(Pkru::closed().0);
+        self.down = true;
+    }
+
     /// A step of a thread that was started, at a tick.
     pub fn act(&mut self, thread: u16, now: u32, action: &Action) -> Result<Answer, NoMemory>
-        requires works { self.old.failed ≡ false }
+        requires works { IsUp self.old }
         requires started { ThreadWasStarted self.old.bus thread }
         requires action { IsAction action.now }
         ensures { IfOk result (Does self.old self.new thread now action.now) }
@@ -164,7 +194,7 @@ impl Bus {
     }
 
     fn load(&self, thread: u16, addr: u64) -> Answer
-        requires works { self.now.failed ≡ false }
+        requires works { IsUp self.now }
         requires started { ThreadWasStarted self.now.bus thread }
         ensures { spec.IsLoaded self.now.bus thread addr result }
     {
@@ -175,7 +205,7 @@ impl Bus {
     }
 
     fn store(&mut self, thread: u16, addr: u64, word: u64) -> Result<Answer, NoMemory>
-        requires works { self.old.failed ≡ false }
+        requires works { IsUp self.old }
         requires started { ThreadWasStarted self.old.bus thread }
         ensures { IfOk result (λ answer. (now : ℕ) → Does self.old self.new thread now (action.Store addr word) answer) }
     {
@@ -192,7 +222,7 @@ impl Bus {
 
     // A compare-and-exchange: the new word is stored where the present one is the old one.
     fn exchange(&mut self, thread: u16, addr: u64, old: u64, new: u64) -> Result<Answer, NoMemory>
-        requires works { self.old.failed ≡ false }
+        requires works { IsUp self.old }
         requires started { ThreadWasStarted self.old.bus thread }
         ensures { IfOk result (λ answer. (now : ℕ) → Does self.old self.new thread now (action.Cas addr old new) answer) }
     {
@@ -207,7 +237,7 @@ impl Bus {
     }
 
     fn flush(&mut self, thread: u16, addr: u64) -> Result<Answer, NoMemory>
-        requires works { self.old.failed ≡ false }
+        requires works { IsUp self.old }
         requires started { ThreadWasStarted self.old.bus thread }
         ensures { IfOk result (λ answer. (now : ℕ) → Does self.old self.new thread now (action.Flush addr) answer) }
     {
@@ -221,22 +251,22 @@ impl Bus {
     }
 
     fn fence(&mut self, thread: u16)
-        requires works { self.old.failed ≡ false }
-        ensures { (now : ℕ) → self.new ≡ with_bus (spec.bus_after thread now action.Fence Answer.Done self.old.bus) }
+        requires works { IsUp self.old }
+        ensures { (now : ℕ) → self.new ≡ with_bus self.old (spec.bus_after thread now action.Fence Answer.Done self.old.bus) }
     {
         self.words.fence(thread);
     }
 
     fn set_pkru(&mut self, thread: u16, pkru: u32)
-        requires works { self.old.failed ≡ false }
+        requires works { IsUp self.old }
         requires started { ThreadWasStarted self.old.bus thread }
-        ensures { (now : ℕ) → self.new ≡ with_bus (spec.bus_after thread now (action.Pkru pkru) Answer.Done self.old.bus) }
+        ensures { (now : ℕ) → self.new ≡ with_bus self.old (spec.bus_after thread now (action.Pkru pkru) Answer.Done self.old.bus) }
     {
         self.pkrus[usize::from(thread)] = pkru;
     }
 
     fn call(&mut self, thread: u16, now: u32, call: &Kcall) -> Result<Answer, NoMemory>
-        requires works { self.old.failed ≡ false }
+        requires works { IsUp self.old }
         requires started { ThreadWasStarted self.old.bus thread }
         requires call { IsCall call.now }
         ensures { IfOk result (Does self.old self.new thread now (action.Kernel call.now)) }
@@ -252,7 +282,7 @@ impl Bus {
 
     // Why a load, or a flush, is refused, if it is.
     fn load_refusal(&self, thread: u16, addr: u64) -> Option<FaultKind>
-        requires works { self.now.failed ≡ false }
+        requires works { IsUp self.now }
         requires started { ThreadWasStarted self.now.bus thread }
         ensures { result ≡ spec.load_refusal self.now.bus thread addr }
     {
@@ -265,7 +295,7 @@ impl Bus {
 
     // Why a store, or an exchange, is refused, if it is.
     fn store_refusal(&self, thread: u16, addr: u64) -> Option<FaultKind>
-        requires works { self.now.failed ≡ false }
+        requires works { IsUp self.now }
         requires started { ThreadWasStarted self.now.bus thread }
         ensures { result ≡ spec.store_refusal self.now.bus thread addr }
     {
@@ -277,11 +307,22 @@ impl Bus {
     }
 
     fn pkru_of(&self, thread: u16) -> Pkru
-        requires works { self.now.failed ≡ false }
+        requires works { IsUp self.now }
         requires started { ThreadWasStarted self.now.bus thread }
         ensures { result.0 ≡ spec.pkru_of self.now.bus thread }
     {
         Pkru(self.pkrus[usize::from(thread)])
+    }
+}
+
+// The memory's name for a pick.
+fn choice_of(pick: Pick) -> Choice
+    ensures { result ≡ spec.choice_of pick }
+{
+    match pick {
+        Pick::All => Choice::All,
+        Pick::None => Choice::None,
+        Pick::Seed(seed) => Choice::Seed(seed),
     }
 }
 

@@ -15,6 +15,9 @@ pub enum BusFault {
     /// The number was started before.
     #[error("it was started before")]
     Started,
+    /// The process has ended, or the thread's process; or the machine is down, and nothing can be started.
+    #[error("it has ended, or the machine is down")]
+    Dead,
     /// Memory ran out, in this call or an earlier one. Each later call answers the same.
     #[error("out of memory")]
     NoMemory,

@@ -1,12 +1,12 @@
 // The machine as its callers have it.
-ghost use Rattle.std.specs.Prelude.{◌≡◌, ◌↔◌, ℕ, ◌<◌, ◌⊎◌, IfOk, IsTrue, OnOk, MatchResult, Ok, Err, true, false};
+ghost use Rattle.std.specs.Prelude.{◌≡◌, ◌↔◌, ℕ, ◌<◌, ◌⊎◌, [], IfOk, IsTrue, OnOk, MatchResult, Ok, Err, true, false};
 ghost use Rattle.std.specs.Result.{IsErrOf};
 ghost use Rattle.kern_model.specs.KernelRules.{IsFirstFault, IsSoundKernel};
 ghost use Rattle.kern_model.specs.KernelCalls as calls;
 ghost use Rattle.bus_model.specs.Machine.{IsAction, ProcessWasStarted, ThreadWasStarted, callers_of};
 ghost use Rattle.tr_types.specs.declared.action.Action.TheVariants.{Store};
 ghost use Rattle.bus_machine.specs.Opening.{bus_opened, OpensAsIs};
-ghost use Rattle.bus_machine.specs.Calls.{StartsProcess, StartsThread, ActsAs};
+ghost use Rattle.bus_machine.specs.Calls.{StartsProcess, StartsThread, ActsAs, with_crash};
 
 use crate::BusFault;
 use crate::bus::Bus;
@@ -14,12 +14,13 @@ use kern_calls::MountFault;
 use pm_words::{NoMemory, Words};
 use std::alloc::Global;
 use std::marker::Model;
-use tr_types::{Action, Answer, Cred};
+use tr_types::{Action, Answer, Cred, Pick};
 
 /// A memory, processes and their threads, and the kernel.
 ///
 /// Up to 64 processes, 0 to 63, and 256 threads, 0 to 255. Where memory runs out in a call, the machine
-/// has failed: each later call answers `NoMemory`.
+/// has failed: each later call answers `NoMemory`. After a crash it is down: everyone who was started has
+/// ended, and nobody else can be started.
 #[derive(Drop)]
 pub struct Machine {
     bus: Bus,
@@ -41,6 +42,7 @@ impl Machine {
     pub fn open(alloc: Global, words: Words) -> Result<Machine, MountFault>
         ensures bus { IfOk result (λ m. m.bus ≡ bus_opened words) }
         ensures works { IfOk result (λ m. m.failed ≡ false) }
+        ensures up { IfOk result (λ m. (m.down ≡ false) × (m.ended ≡ [])) }
         ensures sound { OnOk result (IsSoundKernel words) }
         ensures bad { (place : ℕ) → IsErrOf result (MountFault.BadKernel place) → IsFirstFault words place }
         ensures refuses { (place : ℕ) → IsFirstFault words place → IsErrOf result (MountFault.BadKernel place) ⊎ IsErrOf result MountFault.NoMemory }
@@ -86,7 +88,8 @@ impl Machine {
         self.bus.cred_of(thread)
     }
 
-    /// Starts a process, which acts for a user. `Started` where it was started before.
+    /// Starts a process, which acts for a user. `Started` where it was started before, else `Dead` where
+    /// the machine is down.
     pub fn start_process(&mut self, process: u8, cred: Cred) -> Result<(), BusFault>
         requires { process < 64 }
         ensures { StartsProcess self.old self.new process cred result }
@@ -97,12 +100,16 @@ impl Machine {
         if self.bus.has_process(process) {
             return Err(BusFault::Started);
         }
+        if self.bus.is_down() {
+            return Err(BusFault::Dead);
+        }
         let done = self.bus.start_process(process, cred);
         noted(&mut self.bus, done)
     }
 
     /// Starts a thread in a process, with its register PKRU closed to all coffers. `NoProcess` where
-    /// the process wasn't started, `Started` where the thread was.
+    /// the process wasn't started, else `Started` where the thread was, else `Dead` where the process has
+    /// ended or the machine is down.
     pub fn start_thread(&mut self, thread: u16, process: u8) -> Result<(), BusFault>
         requires { thread < 256 }
         ensures { StartsThread self.old self.new thread process result }
@@ -116,12 +123,16 @@ impl Machine {
         if self.bus.has_thread(thread) {
             return Err(BusFault::Started);
         }
+        if self.bus.is_down() {
+            return Err(BusFault::Dead);
+        }
         let done = self.bus.start_thread(thread, process);
         noted(&mut self.bus, done)
     }
 
     /// Does a step of a thread at a tick, and answers it. Addresses are in bytes; one that is no multiple
-    /// of 8 inside the memory is not mapped. `NoThread` where the thread wasn't started.
+    /// of 8 inside the memory is not mapped. `NoThread` where the thread wasn't started, `Dead` where
+    /// it has ended.
     ///
     /// A flush needs the right to load, a compare-and-exchange that to store, also where it changes
     /// nothing; it answers the word that it found. A fence needs no right.
@@ -138,16 +149,30 @@ impl Machine {
         if !self.bus.has_thread(thread) {
             return Err(BusFault::NoThread);
         }
+        if self.bus.is_down() {
+            return Err(BusFault::Dead);
+        }
         let done = self.bus.act(thread, now, action);
         noted(&mut self.bus, done)
     }
 
-    /// A store that the thread's program didn't mean, under the thread's present rights. `NoThread`
-    /// where the thread wasn't started.
+    /// A store that the thread's program didn't mean, under the thread's present rights. Faults as
+    /// `act` has them.
     pub fn stray(&mut self, thread: u16, addr: u64, word: u64) -> Result<Answer, BusFault>
         ensures { ActsAs self.old self.new thread 0 (Store addr word) result }
     {
         self.act(thread, 0, &Action::Store(addr, word))
+    }
+
+    /// A crash. Each word takes, of the values that a crash may leave there, the one that the pick names,
+    /// and is durable. Everyone who was started has ended, nobody holds a coffer, and all registers are
+    /// closed. It may come when the machine is down already.
+    ///
+    /// Takes no memory, and time in proportion to the words that are pending.
+    pub fn crash(&mut self, pick: Pick)
+        ensures { self.new ≡ with_crash pick self.old }
+    {
+        self.bus.crash(pick);
     }
 }
 

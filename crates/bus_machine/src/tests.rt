@@ -13,7 +13,7 @@ use std::fmt::Write;
 use std::str::FromStr;
 use std::test::Fail;
 use thiserror::Error;
-use tr_types::{Action, Answer, Cred, Groups, Kcall, Path, Right};
+use tr_types::{Action, Answer, Cred, Groups, Kcall, PROCESSES, Path, Pick, Right, THREADS};
 
 /// Bytes of 64 pages.
 const BYTES: u64 = 262_144;
@@ -56,6 +56,43 @@ left 159744 -> [8]
 0 map read -> Mapped(Mapped { id: 1, key: 1, control: 38, root: 39, pages: 2, path_len: 1, perm: Perm { uid: 0, gid: 0, mode: 438 } })
 0 store 159744 1 -> Fault(NotWritable)
 0 cas 159744 9 9 -> Fault(NotWritable)
+";
+
+/// A store that is made durable, one that isn't, and a crash that takes the durable values. Nobody acts from then on,
+/// nothing is started, and who was never started still wasn't. A second crash changes nothing more.
+const CRASHED: &str = "\
+0 map write -> Mapped(Mapped { id: 1, key: 1, control: 38, root: 39, pages: 2, path_len: 1, perm: Perm { uid: 0, gid: 0, mode: 438 } })
+0 pkru 1431655760 -> Done
+0 store 159744 7 -> Done
+0 flush 159744 -> Done
+0 fence -> Done
+0 store 159744 8 -> Done
+left 159744 -> [7, 8]
+crash none -> Done
+left 159744 -> [7]
+0 load 159744 -> it has ended, or the machine is down
+0 stray 159744 9 -> it has ended, or the machine is down
+2 fence -> it has ended, or the machine is down
+3 fence -> no such thread was started
+start process 0 -> it was started before
+start process 2 -> it has ended, or the machine is down
+start thread 3 2 -> no such process was started
+start thread 2 0 -> it was started before
+start thread 3 0 -> it has ended, or the machine is down
+crash all -> Done
+left 159744 -> [7]
+";
+
+/// The same stores, and a crash that takes the present values.
+const KEPT: &str = "\
+0 map write -> Mapped(Mapped { id: 1, key: 1, control: 38, root: 39, pages: 2, path_len: 1, perm: Perm { uid: 0, gid: 0, mode: 438 } })
+0 pkru 1431655760 -> Done
+0 store 159744 7 -> Done
+0 flush 159744 -> Done
+0 fence -> Done
+0 store 159744 8 -> Done
+crash all -> Done
+left 159744 -> [8]
 ";
 
 /// The journal says that word 0 of page 40 becomes 7.
@@ -150,11 +187,14 @@ fn wrong_in(machine: &mut Machine, alloc: Global, table: &str) -> Result<String,
     Ok(wrong)
 }
 
-// What comes of a line: `left` ADDRESS, for what a crash may leave there, or THREAD and an action.
+// What comes of a line: `left` ADDRESS, for what a crash may leave there; `crash` PICK; `start process` NUMBER and
+// `start thread` NUMBER PROCESS; or THREAD and an action.
 fn outcome(machine: &mut Machine, alloc: Global, line: &str) -> Result<String, LineFault> {
     let words = words_of(alloc, line)?;
     match words.as_slice() {
         ["left", addr] => left(machine, alloc, number(addr)?),
+        ["crash", pick] => crash(machine, alloc, pick_of(pick)?),
+        ["start", number @ ..] => text_of(alloc, start(machine, number)?),
         [thread, action @ ..] => text_of(alloc, step(machine, alloc, number(thread)?, action)?),
         [] => Err(LineFault::NoLine),
     }
@@ -185,6 +225,53 @@ fn left(machine: &Machine, alloc: Global, addr: u64) -> Result<String, LineFault
     }
     let list = pending(machine.words(), addr)?;
     Ok(format!(in alloc; "{:?}", list.as_slice())?)
+}
+
+fn crash(machine: &mut Machine, alloc: Global, pick: Pick) -> Result<String, LineFault> {
+    machine.crash(pick);
+    text_of(alloc, Ok(Answer::Done))
+}
+
+fn pick_of(word: &str) -> Result<Pick, LineFault> {
+    match word {
+        "none" => Ok(Pick::None),
+        "all" => Ok(Pick::All),
+        _ => Err(LineFault::NoLine),
+    }
+}
+
+fn start(machine: &mut Machine, words: &[&str]) -> Result<Result<Answer, BusFault>, LineFault> {
+    match words {
+        ["process", process] => start_process(machine, number(process)?),
+        ["thread", thread, process] => start_thread(machine, number(thread)?, number(process)?),
+        _ => Err(LineFault::NoLine),
+    }
+}
+
+fn start_process(
+    machine: &mut Machine,
+    process: u8,
+) -> Result<Result<Answer, BusFault>, LineFault> {
+    if process >= PROCESSES {
+        return Err(LineFault::NoLine);
+    }
+    Ok(done(machine.start_process(process, USER)))
+}
+
+fn start_thread(
+    machine: &mut Machine,
+    thread: u16,
+    process: u8,
+) -> Result<Result<Answer, BusFault>, LineFault> {
+    if thread >= THREADS {
+        return Err(LineFault::NoLine);
+    }
+    Ok(done(machine.start_thread(thread, process)))
+}
+
+fn done(told: Result<(), BusFault>) -> Result<Answer, BusFault> {
+    told?;
+    Ok(Answer::Done)
 }
 
 fn pending(words: &Words, addr: u64) -> Result<Vec<u64>, NoMemory>
@@ -261,6 +348,18 @@ where
 #[test]
 fn steps_are_answered_by_the_rights(rt: HostRuntime) -> Result<(), Fail> {
     assert_eq!(rt; wrong_lines(rt.alloc(), &[], STEPS)?.as_str(), "");
+    Ok(())
+}
+
+#[test]
+fn a_crash_takes_what_was_picked_and_ends_everyone(rt: HostRuntime) -> Result<(), Fail> {
+    assert_eq!(rt; wrong_lines(rt.alloc(), &[], CRASHED)?.as_str(), "");
+    Ok(())
+}
+
+#[test]
+fn a_crash_may_keep_what_was_not_fenced(rt: HostRuntime) -> Result<(), Fail> {
+    assert_eq!(rt; wrong_lines(rt.alloc(), &[], KEPT)?.as_str(), "");
     Ok(())
 }
 

@@ -1,15 +1,18 @@
 -- Laws of the machine: what an entry leaves of the length of the memory, of its words and of the registers.
 use Rattle.std.proofs.Common.{◌≡◌, ◌≢◌, ◌⊎◌, ℕ, ◌/◌, ◌<◌, ◌≤◌, List, [], ◌∷◌, ◌++◌, length, map, Contains, slice_index_or, zero, suc, Bool, true, false, if◌then◌else◌, nat_eq, refl, sym, ap, subst, ◌∙◌, inl, inr, arith, get_or-set_other}
 use Rattle.std.proofs.lemmas.List.{length-set, get_or_past}
+use Rattle.std.proofs.lemmas.List.Elements.{Contains-push_cases}
 use Rattle.std.proofs.lemmas.List.FromFn.{length-map-range_with_len, get_or-map-range_with_len}
 use Rattle.std.proofs.lemmas.Bool.{cases_eq, cases_lt, cond_both, eqb-true}
 use Rattle.std.specs.List.{range_with_len}
 use Rattle.pm_words.specs.Word.{Word, settled}
 use Rattle.pm_words.specs.Memory.{word_at, store_at, cas_at, flush_at, fence_by}
+use Rattle.pm_words.specs.Crash.{after_crash, MayLeave}
 use Rattle.pm_words.proofs.WordLemmas.{length_store_at, other_place}
+use Rattle.pm_words.proofs.CrashLemmas.{crash_leaves}
 use Rattle.kern_model.specs.KernelView.{pages_of}
 use Rattle.kern_model.specs.KernelView.{value}
-use Rattle.bus_model.specs.Machine.{Machine, Bus, ThreadWasStarted, HasRegisters, Fits, Answers, HasText, acted, callers_of, registered, bus_after, bus_moved, bus_over, with_thread, closed_pkrus, pkru_of}
+use Rattle.bus_model.specs.Machine.{Machine, Bus, ThreadWasStarted, HasRegisters, Fits, Answers, HasText, acted, callers_of, registered, bus_after, bus_moved, choice_of, bus_over, with_thread, closed_pkrus, pkru_of}
 use Rattle.kern_model.specs.Rights.{closed_pkru}
 use Rattle.kern_model.specs.KernelCalls.{inner_of}
 use Rattle.kern_model.proofs.StepLemmas.{length_run, changed_by}
@@ -21,6 +24,7 @@ use Rattle.tr_types.specs.declared.action.Action.TheVariants.{Load, Store, Cas, 
 use Rattle.tr_types.specs.declared.action.Answer.{Answer}
 use Rattle.tr_types.specs.declared.action.Answer.TheVariants.{Word as WordIs, Done, Fault, Kern}
 use Rattle.tr_types.specs.declared.entry.Entry.{Entry}
+use Rattle.tr_types.specs.declared.entry.Pick.{Pick}
 use Rattle.tr_types.specs.declared.entry.Entry.TheVariants as entry
 use Rattle.tr_types.specs.declared.entry.Mark.{Mark}
 use Rattle.tr_types.specs.declared.kernel_call.Kcall.{Kcall}
@@ -86,6 +90,30 @@ by_stray m thread at word (WordIs x) may addr changes = changes refl
 by_stray m thread at word (Fault kind) may addr changes = changes refl
 by_stray m thread at word (Kern answer) may addr changes = changes refl
 
+-- a crash leaves a value that the word has, or an earlier one
+module _ (pick : Pick) (words : List Word) (addr : ℕ) where
+  abbrev after : List Word
+  after = after_crash (choice_of pick) words
+
+  abbrev Earlier : Type 0
+  Earlier = Contains (word_at words addr).older (value after addr)
+
+  by_crash : value after addr ≢ value words addr → Earlier
+  by_crash changes = by (cases_lt (addr / 8) (length words))
+    where
+      left : MayLeave words after
+      left = crash_leaves (choice_of pick) words
+
+      earlier : Contains (word_at words addr).older (value after addr) ⊎ ((word_at words addr).present ≡ value after addr) → Earlier
+      earlier (inl older) = older
+      earlier (inr same) = absurd (changes (sym same))
+
+      by : (addr / 8 < length words) ⊎ (length words ≤ addr / 8) → Earlier
+      by (inl inside) = earlier (Contains-push_cases (word_at words addr).older (word_at words addr).present (value after addr) (left.value (addr / 8) inside))
+      by (inr past) =
+          let len = left.len in
+          absurd (changes (ap (λ (w : Word). w.present) (get_or_past after (addr / 8) (settled 0) (omega (arith, len, past)) ∙ sym (get_or_past words (addr / 8) (settled 0) past))))
+
 pub confined : (m : Machine) (e : Entry) → Fits m e → IsConfined m e
 confined m (entry.Act thread now mark action answer) may addr changes = by_action m thread now mark action answer may addr changes
 confined m (entry.Stray thread at word answer) may addr changes = by_stray m thread at word answer may addr changes
@@ -98,7 +126,7 @@ confined m (entry.Reply thread reply) may addr changes = changes refl
 confined m (entry.Wild thread now action answer) may addr changes = changes refl
 confined m (entry.Corrupt process) may addr changes = changes refl
 confined m (entry.Kill process) may addr changes = changes refl
-confined m (entry.Crash pick) may addr changes = changes refl
+confined m (entry.Crash pick) may addr changes = by_crash pick m.bus.words addr changes
 confined m (entry.CrashIn thread now call k pick) may addr changes = changes refl
 confined m (entry.Recovery action) may addr changes = changes refl
 confined m (entry.Recovered ready quarantined) may addr changes = changes refl
@@ -175,7 +203,7 @@ pages_moved bus (entry.Reply thread reply) = refl
 pages_moved bus (entry.Wild thread now action answer) = refl
 pages_moved bus (entry.Corrupt process) = refl
 pages_moved bus (entry.Kill process) = refl
-pages_moved bus (entry.Crash pick) = refl
+pages_moved bus (entry.Crash pick) = ap (λ n. n / 512) (crash_leaves (choice_of pick) bus.words).len
 pages_moved bus (entry.CrashIn thread now call k pick) = refl
 pages_moved bus (entry.Recovery action) = refl
 pages_moved bus (entry.Recovered ready quarantined) = refl
@@ -213,6 +241,10 @@ with_thread_small bus thread process lt has t lives = elim (one_of bus.threads t
   | inr before ↦ has.small t before
 ]
 
+closed_count : length closed_pkrus ≡ 256
+unfolding closed_pkrus
+closed_count = length-map-range_with_len (λ _. closed_pkru) 0 256
+
 pub registers_moved : (m : Machine) (e : Entry) → Fits m e → HasRegisters m.bus → HasRegisters (bus_moved m.bus e)
 registers_moved m (entry.Act thread now mark action answer) fits has = record { count = length_registered thread action answer m.bus.pkrus ∙ has.count; small = has.small }
 registers_moved m (entry.Stray thread addr word answer) fits has = record { count = has.count; small = has.small }
@@ -225,7 +257,7 @@ registers_moved m (entry.Reply thread reply) fits has = has
 registers_moved m (entry.Wild thread now action answer) fits has = has
 registers_moved m (entry.Corrupt process) fits has = has
 registers_moved m (entry.Kill process) fits has = has
-registers_moved m (entry.Crash pick) fits has = has
+registers_moved m (entry.Crash pick) fits has = record { count = closed_count; small = has.small }
 registers_moved m (entry.CrashIn thread now call k pick) fits has = has
 registers_moved m (entry.Recovery action) fits has = has
 registers_moved m (entry.Recovered ready quarantined) fits has = has
@@ -233,10 +265,6 @@ registers_moved m (entry.Lost path) fits has = has
 registers_moved m (entry.Skip line why) fits has = has
 registers_moved m (entry.Quarantine path) fits has = has
 registers_moved m (entry.Coffers list) fits has = has
-
-closed_count : length closed_pkrus ≡ 256
-unfolding closed_pkrus
-closed_count = length-map-range_with_len (λ _. closed_pkru) 0 256
 
 pub registers_first : (image : List ℕ) → HasRegisters (bus_over image)
 registers_first image = record { count = closed_count; small = λ t among. nobody t among }

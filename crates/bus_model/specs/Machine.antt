@@ -1,9 +1,12 @@
 -- The machine. An entry of a trace is a test on the machine before it (`Fits`) and a total function to the machine
 -- after it (`moved`). Cases that no entry has yet are `⊥`.
-use Rattle.std.specs.Prelude.{◌≡◌, ℕ, ◌<◌, ◌≤◌, ◌/◌, ◌%◌, List, [], ◌∷◌, ◌++◌, length, map, slice_index_or, slice_set, Bool, true, false, Contains, Option, Some, None, if◌then◌else◌, ◌==◌, ◌&&◌, nat_lt}
+use Rattle.std.specs.Prelude.{◌≡◌, ℕ, ◌+◌, ◌<◌, ◌≤◌, ◌/◌, ◌%◌, List, [], ◌∷◌, ◌++◌, length, map, slice_index_or, slice_set, Bool, true, false, Contains, Option, Some, None, if◌then◌else◌, ◌==◌, ◌&&◌, nat_lt}
 use Rattle.std.specs.List.{range_with_len}
 use Rattle.pm_words.specs.Word.{Word}
 use Rattle.pm_words.specs.Memory.{word_at, store_at, cas_at, flush_at, fence_by, all_durable, present_values}
+use Rattle.pm_words.specs.Crash.{after_crash}
+use Rattle.pm_words.specs.declared.choice.Choice.{Choice}
+use Rattle.pm_words.specs.declared.choice.Choice.TheVariants as choice
 use Rattle.kern_model.specs.NewImage.{new_image}
 use Rattle.kern_model.specs.Kernel.{kernel_owner}
 use Rattle.kern_model.specs.KernelCalls.{Callers, answer_of, words_after, holders_after, located, IsCall}
@@ -19,6 +22,8 @@ use Rattle.tr_types.specs.declared.kernel_call.Kcall.{Kcall}
 use Rattle.tr_types.specs.declared.limits.TheConstants.{PROCESSES, THREADS}
 use Rattle.tr_types.specs.declared.kernel_call.Holder.{Holder}
 use Rattle.tr_types.specs.declared.permission.Cred.{Cred}
+use Rattle.tr_types.specs.declared.entry.Pick.{Pick}
+use Rattle.tr_types.specs.declared.entry.Pick.TheVariants as pick
 use Rattle.tr_types.specs.declared.entry.Entry.{Entry}
 use Rattle.tr_types.specs.declared.entry.Entry.TheVariants as entry
 
@@ -42,6 +47,8 @@ pub record Machine : Type 0 where
   pub begun : Bool
   -- the processes that have ended, each with its threads
   pub ended : List ℕ
+  -- a crash has come, and no recovery since
+  pub down : Bool
 
 -- the registers before any thread has opened a key
 unfoldable pub closed_pkrus : List ℕ
@@ -52,7 +59,7 @@ abbrev pub bus_over : List ℕ → Bus
 bus_over image = record { words = all_durable image; processes = []; threads = []; holders = []; pkrus = closed_pkrus }
 
 abbrev pub opened : List ℕ → Machine
-opened image = record { bus = bus_over image; clock = 0; latest = 0; begun = false; ended = [] }
+opened image = record { bus = bus_over image; clock = 0; latest = 0; begun = false; ended = []; down = false }
 
 abbrev pub pkru_of : Bus → ℕ → ℕ
 pkru_of bus thread = slice_index_or bus.pkrus thread closed_pkru
@@ -162,10 +169,26 @@ with_process process cred bus = record { words = bus.words; processes = bus.proc
 abbrev pub with_thread : ℕ → ℕ → Bus → Bus
 with_thread thread process bus = record { words = bus.words; processes = bus.processes; threads = bus.threads ++ (thread, process) ∷ []; holders = bus.holders; pkrus = bus.pkrus }
 
+-- A crash.
+
+-- the memory's name for a pick of an entry
+abbrev pub choice_of : Pick → Choice
+choice_of pick.All = choice.All
+choice_of pick.None = choice.None
+choice_of (pick.Seed seed) = choice.Seed seed
+
+-- the bus after a crash: each word has the value that was picked, nobody holds a coffer, and all registers are closed
+abbrev pub crashed : Pick → Bus → Bus
+crashed pick bus = record { words = after_crash (choice_of pick) bus.words; processes = bus.processes; threads = bus.threads; holders = []; pkrus = closed_pkrus }
+
+-- the numbers of the processes that were started
+abbrev pub process_numbers : Bus → List ℕ
+process_numbers bus = map (λ p. p.0) bus.processes
+
 -- Who was started, and who of these lives: a process until it ends, and its threads with it.
 
 abbrev pub ProcessWasStarted : Bus → ℕ → Type 0
-ProcessWasStarted bus process = Contains (map (λ p. p.0) bus.processes) process
+ProcessWasStarted bus process = Contains (process_numbers bus) process
 
 abbrev pub ThreadWasStarted : Bus → ℕ → Type 0
 ThreadWasStarted bus thread = Contains (map (λ t. t.0) bus.threads) thread
@@ -188,18 +211,25 @@ pub record HasRegisters (bus : Bus) : Type 0 where
 abbrev pub IsDue : Machine → ℕ → Type 0
 IsDue m now = (m.latest ≤ now) × (now ≤ m.clock)
 
+-- the last tick of the clock
+abbrev pub last_tick : ℕ
+last_tick = 4294966295
+
 -- the entry may come at this machine
 abbrev pub Fits : Machine → Entry → Type 0
 -- the first entry alone, over the new image of that many pages
 Fits m (entry.Mkfs pages) = (m.begun ≡ false) × (present_values m.bus.words ≡ new_image pages)
--- no number is started twice
-Fits m (entry.Process process cred) = (process < PROCESSES) × (ProcessWasStarted m.bus process → ⊥)
+-- No number is started twice. From a crash on no process is started, and nothing lives.
+Fits m (entry.Process process cred) = (process < PROCESSES) × (ProcessWasStarted m.bus process → ⊥) × (m.down ≡ false)
 Fits m (entry.Thread thread process) = (thread < THREADS) × (ThreadWasStarted m.bus thread → ⊥) × ProcessLives m process
 Fits m (entry.Call thread command) = ThreadLives m thread
 Fits m (entry.Act thread now mark action answer) = ThreadLives m thread × IsDue m now × HasText m.bus thread now action answer
 Fits m (entry.Reply thread reply) = ThreadLives m thread
 -- a store that the thread's program didn't mean, under the thread's present rights
 Fits m (entry.Stray thread addr word answer) = ThreadLives m thread × IsStored m.bus thread addr answer
+Fits m (entry.Tick n) = m.clock + n ≤ last_tick
+-- also where the machine is down already
+Fits m (entry.Crash pick) = Unit {0}
 Fits m e = ⊥
 
 -- the bus after the entry
@@ -208,12 +238,33 @@ bus_moved bus (entry.Process process cred) = with_process process cred bus
 bus_moved bus (entry.Thread thread process) = with_thread thread process bus
 bus_moved bus (entry.Act thread now mark action answer) = bus_after thread now action answer bus
 bus_moved bus (entry.Stray thread addr word answer) = bus_after thread 0 (Store addr word) answer bus
+bus_moved bus (entry.Crash pick) = crashed pick bus
 bus_moved bus e = bus
+
+abbrev pub clock_after : ℕ → Entry → ℕ
+clock_after clock (entry.Tick n) = clock + n
+clock_after clock e = clock
 
 abbrev pub latest_after : ℕ → Entry → ℕ
 latest_after latest (entry.Act thread now mark action answer) = now
 latest_after latest e = latest
 
+-- a crash ends every process that was started
+abbrev pub ended_after : Machine → Entry → List ℕ
+ended_after m (entry.Crash pick) = process_numbers m.bus
+ended_after m e = m.ended
+
+abbrev pub down_after : Bool → Entry → Bool
+down_after down (entry.Crash pick) = true
+down_after down e = down
+
 -- the machine after the entry
 abbrev pub moved : Machine → Entry → Machine
-moved m e = record { bus = bus_moved m.bus e; clock = m.clock; latest = latest_after m.latest e; begun = true; ended = m.ended }
+moved m e = record {
+  bus = bus_moved m.bus e;
+  clock = clock_after m.clock e;
+  latest = latest_after m.latest e;
+  begun = true;
+  ended = ended_after m e;
+  down = down_after m.down e;
+}

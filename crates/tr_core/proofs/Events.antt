@@ -38,10 +38,12 @@ module _ (w : World) (m : MachineView) (calls : ℕ → Option Waiting) (k : Sta
     }
 
     -- and leaves the core so
-    pub event_stands : (next : MachineView) → next.failed ≡ false → next.bus ≡ v.base.machine.bus → ((t : ℕ) → ThreadLives w.base.machine t → ThreadLives v.base.machine t) → IsTimeless v.base.machine → AreRoots v.base.machine.bus → Stands v next calls
-    event_stands next works bus lives timeless users = record {
+    pub event_stands : (next : MachineView) → next.failed ≡ false → next.bus ≡ v.base.machine.bus → next.ended ≡ v.base.machine.ended → next.down ≡ v.base.machine.down → ((t : ℕ) → ThreadLives w.base.machine t → ThreadLives v.base.machine t) → IsTimeless v.base.machine → AreRoots v.base.machine.bus → Stands v next calls
+    event_stands next works bus ended down lives timeless users = record {
       works = works;
       bus = bus;
+      ended = ended;
+      down = down;
       rooted = rooted;
       denoted = denoted;
       windowed = windowed;

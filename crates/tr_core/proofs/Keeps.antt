@@ -34,7 +34,7 @@ use Rattle.tr_core.specs.declared.limits.TheConstants.{TRACE_LIMIT}
 use Rattle.tr_core.specs.Core.{CoreView, IsTurnOf, IsOfEvent, IsNamed, MayHappen, IsQuiet, Adds, GivesAs, IsTurned, IsHappened, IsStrayOf, HasThread, HasProcess, IsDueAt, due_in, due_at}
 use Rattle.tr_core.specs.Places.{place_in}
 use Rattle.tr_core.specs.Standing.{Stands, StandsAs, IsTimeless, AreRoots, due_of, mark_of}
-use Rattle.tr_core.specs.Steps.{Acts, Begins, StepsBy, Steps, CanHappen, Happens, HappensBy, Strays}
+use Rattle.tr_core.specs.Steps.{Acts, Begins, StepsBy, Steps, CanHappen, Happens, HappensBy, NobodyHasEnded, Strays}
 use Rattle.tr_core.specs.Traces.{IsTraceOf, world_after}
 use Rattle.tr_core.proofs.Events.{event_next, event_stands}
 use Rattle.tr_core.proofs.Growing.{IsNext, grows, world_more, thread_lives, process_lives, length_more}
@@ -164,8 +164,8 @@ module _ (opening : List ℕ) (trace : List Entry) (m : MachineView) (places : L
   keys : (row : Holder) → Contains m.bus.holders row → IsKey row.key
   keys row among = rooted_key w k.rooted row (subst (λ (b : Bus). Contains b.holders row) k.bus among)
 
-  still_timeless : (v : World) → v.base.machine.clock ≡ w.base.machine.clock → v.base.machine.latest ≡ w.base.machine.latest → v.base.machine.ended ≡ w.base.machine.ended → IsTimeless v.base.machine
-  still_timeless v clock latest ended = record { clock = clock ∙ k.timeless.clock; latest = latest ∙ k.timeless.latest; ended = ended ∙ k.timeless.ended }
+  still_timeless : (v : World) → v.base.machine.clock ≡ w.base.machine.clock → v.base.machine.latest ≡ w.base.machine.latest → v.base.machine.ended ≡ w.base.machine.ended → v.base.machine.down ≡ w.base.machine.down → IsTimeless v.base.machine
+  still_timeless v clock latest ended down = record { clock = clock ∙ k.timeless.clock; latest = latest ∙ k.timeless.latest; ended = ended ∙ k.timeless.ended; up = down ∙ k.timeless.up }
 
   -- an event's entry, after which the machine is this
   module _ (e : Entry) (next : MachineView) (longer : List Entry) (is : longer ≡ trace ++ e ∷ []) where
@@ -175,27 +175,27 @@ module _ (opening : List ℕ) (trace : List Entry) (m : MachineView) (places : L
   mkfs_keeps : (pages : ℕ) → trace ≡ [] → opening ≡ new_image pages → (next : MachineView) → next ≡ m → (longer : List Entry) → longer ≡ trace ++ entry.Mkfs pages ∷ [] → Keeps opening longer next calls
   mkfs_keeps pages first image next still longer is = happened (entry.Mkfs pages) next longer is
       (event_next w m calls k (entry.Mkfs pages) comes refl refl refl tt tt tt tt tt tt)
-      (event_stands w m calls k (entry.Mkfs pages) comes refl refl refl next (ap (λ (x : MachineView). x.failed) still ∙ k.works) (ap (λ (x : MachineView). x.bus) still ∙ k.bus) (λ t l. l)
-      (still_timeless (stepped w (entry.Mkfs pages)) refl refl refl) k.users)
+      (event_stands w m calls k (entry.Mkfs pages) comes refl refl refl next (ap (λ (x : MachineView). x.failed) still ∙ k.works) (ap (λ (x : MachineView). x.bus) still ∙ k.bus) (ap (λ (x : MachineView). x.ended) still ∙ k.ended) (ap (λ (x : MachineView). x.down) still ∙ k.down) (λ t l. l)
+      (still_timeless (stepped w (entry.Mkfs pages)) refl refl refl refl) k.users)
     where
       comes : MayCome w (entry.Mkfs pages)
       comes = subst (λ t. MayCome (world_after opening t) (entry.Mkfs pages)) (sym first) (refl, present_all_durable opening ∙ image)
 
-  process_keeps : (process : ℕ) (cred : Cred) → MayHappen (view opening trace places false) (event.Process process cred) → (next : MachineView) → next ≡ with_bus (with_process process cred m.bus) → (longer : List Entry) → longer ≡ trace ++ entry.Process process cred ∷ []
+  process_keeps : (process : ℕ) (cred : Cred) → MayHappen (view opening trace places false) (event.Process process cred) → (next : MachineView) → next ≡ with_bus m (with_process process cred m.bus) → (longer : List Entry) → longer ≡ trace ++ entry.Process process cred ∷ []
       → Keeps opening longer next calls
   process_keeps process cred may next moved longer is = happened (entry.Process process cred) next longer is
       (event_next w m calls k (entry.Process process cred) comes refl refl refl tt tt tt tt tt tt)
-      (event_stands w m calls k (entry.Process process cred) comes refl refl refl next (ap (λ (x : MachineView). x.failed) moved) (ap (λ (x : MachineView). x.bus) moved ∙ ap (λ (b : Bus). with_process process cred b) k.bus) (λ t l. l)
-      (still_timeless (stepped w (entry.Process process cred)) refl refl refl) (roots_process w.base.machine.bus process cred may.2 k.users))
+      (event_stands w m calls k (entry.Process process cred) comes refl refl refl next (ap (λ (x : MachineView). x.failed) moved ∙ k.works) (ap (λ (x : MachineView). x.bus) moved ∙ ap (λ (b : Bus). with_process process cred b) k.bus) (ap (λ (x : MachineView). x.ended) moved ∙ k.ended) (ap (λ (x : MachineView). x.down) moved ∙ k.down) (λ t l. l)
+      (still_timeless (stepped w (entry.Process process cred)) refl refl refl refl) (roots_process w.base.machine.bus process cred may.2 k.users))
     where
       comes : MayCome w (entry.Process process cred)
-      comes = (may.0, may.1)
+      comes = (may.0, may.1, k.timeless.up)
 
-  thread_keeps : (thread process : ℕ) → MayHappen (view opening trace places false) (event.Thread thread process) → ProcessWasStarted w.base.machine.bus process → (next : MachineView) → next ≡ with_bus (with_thread thread process m.bus) → (longer : List Entry) → longer ≡ trace ++ entry.Thread thread process ∷ []
+  thread_keeps : (thread process : ℕ) → MayHappen (view opening trace places false) (event.Thread thread process) → ProcessWasStarted w.base.machine.bus process → (next : MachineView) → next ≡ with_bus m (with_thread thread process m.bus) → (longer : List Entry) → longer ≡ trace ++ entry.Thread thread process ∷ []
       → Keeps opening longer next calls
   thread_keeps thread process may named next moved longer is = happened (entry.Thread thread process) next longer is
       (event_next w m calls k (entry.Thread thread process) comes refl refl refl tt tt tt tt tt tt)
-      (event_stands w m calls k (entry.Thread thread process) comes refl refl refl next (ap (λ (x : MachineView). x.failed) moved) (ap (λ (x : MachineView). x.bus) moved ∙ ap (λ (b : Bus). with_thread thread process b) k.bus)
+      (event_stands w m calls k (entry.Thread thread process) comes refl refl refl next (ap (λ (x : MachineView). x.failed) moved ∙ k.works) (ap (λ (x : MachineView). x.bus) moved ∙ ap (λ (b : Bus). with_thread thread process b) k.bus) (ap (λ (x : MachineView). x.ended) moved ∙ k.ended) (ap (λ (x : MachineView). x.down) moved ∙ k.down)
       (λ t l. thread_lives (stepped w (entry.Thread thread process)).base.machine t timeless (thread_stays w.base.machine.bus thread process t l.0))
       timeless (roots_thread w.base.machine.bus thread process named k.users))
     where
@@ -203,19 +203,19 @@ module _ (opening : List ℕ) (trace : List Entry) (m : MachineView) (places : L
       comes = (may.0, may.1, process_lives w.base.machine process k.timeless named)
 
       timeless : IsTimeless (stepped w (entry.Thread thread process)).base.machine
-      timeless = still_timeless (stepped w (entry.Thread thread process)) refl refl refl
+      timeless = still_timeless (stepped w (entry.Thread thread process)) refl refl refl refl
 
   -- a thread without a call has its register closed
   closed_by : (thread : ℕ) (c : Option Waiting) → c ≡ None → StandsAs w thread c → pkru_of w.base.machine.bus thread ≡ closed_pkru
   closed_by thread None none s = s.1.register
   closed_by thread (Some waiting) none s = absurd (some_none waiting none)
 
-  fault_keeps : (thread addr word : ℕ) (kind : FaultKind) → ThreadWasStarted w.base.machine.bus thread → IsStored w.base.machine.bus thread addr (Fault kind) → (next : MachineView) → next ≡ with_bus (bus_after thread 0 (Store addr word) (Fault kind) m.bus) → (longer : List Entry)
+  fault_keeps : (thread addr word : ℕ) (kind : FaultKind) → ThreadWasStarted w.base.machine.bus thread → IsStored w.base.machine.bus thread addr (Fault kind) → (next : MachineView) → next ≡ with_bus m (bus_after thread 0 (Store addr word) (Fault kind) m.bus) → (longer : List Entry)
       → longer ≡ trace ++ entry.Stray thread addr word (Fault kind) ∷ [] → Keeps opening longer next calls
   fault_keeps thread addr word kind named stored next moved longer is = happened (entry.Stray thread addr word (Fault kind)) next longer is
       (event_next w m calls k (entry.Stray thread addr word (Fault kind)) comes refl refl refl tt tt tt tt tt tt)
-      (event_stands w m calls k (entry.Stray thread addr word (Fault kind)) comes refl refl refl next (ap (λ (x : MachineView). x.failed) moved) (ap (λ (x : MachineView). x.bus) moved ∙ ap (λ (b : Bus). bus_after thread 0 (Store addr word) (Fault kind) b) k.bus) (λ t l. l)
-      (still_timeless (stepped w (entry.Stray thread addr word (Fault kind))) refl refl refl) (record { creds = k.users.creds; housed = k.users.housed }))
+      (event_stands w m calls k (entry.Stray thread addr word (Fault kind)) comes refl refl refl next (ap (λ (x : MachineView). x.failed) moved ∙ k.works) (ap (λ (x : MachineView). x.bus) moved ∙ ap (λ (b : Bus). bus_after thread 0 (Store addr word) (Fault kind) b) k.bus) (ap (λ (x : MachineView). x.ended) moved ∙ k.ended) (ap (λ (x : MachineView). x.down) moved ∙ k.down) (λ t l. l)
+      (still_timeless (stepped w (entry.Stray thread addr word (Fault kind))) refl refl refl refl) (record { creds = k.users.creds; housed = k.users.housed }))
     where
       comes : MayCome w (entry.Stray thread addr word (Fault kind))
       comes = (thread_lives w.base.machine thread k.timeless named, stored)
@@ -226,7 +226,7 @@ module _ (opening : List ℕ) (trace : List Entry) (m : MachineView) (places : L
       let refused = stray_refused m.bus thread addr closed keys strays.answer strays.stored in
       fault_keeps thread addr word refused.0 named
       (subst (λ (b : Bus). IsStored b thread addr (Fault refused.0)) k.bus (subst (IsStored m.bus thread addr) refused.1 strays.stored))
-      next (strays.machine ∙ ap (λ a. with_bus (bus_after thread 0 (Store addr word) a m.bus)) refused.1)
+      next (strays.machine ∙ ap (λ a. with_bus m (bus_after thread 0 (Store addr word) a m.bus)) refused.1)
       longer (is ∙ ap (λ x. trace ++ x ∷ []) (strays.entry_is ∙ ap (λ a. entry.Stray thread addr word a) refused.1))
 
   event_by : (happening : FaultEvent) → MayHappen (view opening trace places false) happening → IsNamed (view opening trace places false) happening → (next : MachineView) (e : Entry) → HappensBy happening m next e → (longer : List Entry) → longer ≡ trace ++ e ∷ [] → Keeps opening longer next calls
@@ -285,6 +285,9 @@ module _ (opening : List ℕ) (trace : List Entry) (m : MachineView) (places : L
 
   pub small_now : (thread : ℕ) → HasThread now thread → thread < THREADS
   small_now thread was = stands_now.registers.small thread (of_fields (λ c. HasThread c thread) was)
+
+  pub nobody_ended : NobodyHasEnded m
+  nobody_ended = (stands_now.down ∙ stands_now.timeless.up, stands_now.ended ∙ stands_now.timeless.ended)
 
   pub given_all : (thread : ℕ) (command : Command) → HasThread now thread → length now.trace < TRACE_LIMIT → IsCommand command → IsQuiet now → (longer : List Entry) → longer ≡ trace ++ entry.Call thread command ∷ [] → (waiting : Waiting) → Begins thread command waiting
       → (later : List (Option Waiting)) → ((t : ℕ) → place_in later t ≡ put (place_in places) thread (Some waiting) t) → Keeps opening longer m (place_in later) × GivesAs now (view opening longer later failed) thread command (Ok tt)

@@ -14,3 +14,5 @@ pub mod Turns
 pub mod Keeps
 -- how the world opens over a new image
 pub mod Opening
+-- which of the machine's faults can come
+mod Faults

@@ -214,15 +214,17 @@ module _ (pages : ℕ) (least : 64 ≤ pages) (most : pages ≤ 16384) where
   }
 
 -- a core as it opens
-pub opens_standing : (pages : ℕ) → 64 ≤ pages → pages ≤ 16384 → (m : MachineView) → m.failed ≡ false → m.bus ≡ bus_over (new_image pages) → (calls : ℕ → Option Waiting) → ((t : ℕ) → calls t ≡ None) → Stands (world_of (new_image pages)) m calls
-opens_standing pages least most m works bus calls quiet = record {
+pub opens_standing : (pages : ℕ) → 64 ≤ pages → pages ≤ 16384 → (m : MachineView) → m.failed ≡ false → m.bus ≡ bus_over (new_image pages) → m.ended ≡ [] → m.down ≡ false → (calls : ℕ → Option Waiting) → ((t : ℕ) → calls t ≡ None) → Stands (world_of (new_image pages)) m calls
+opens_standing pages least most m works bus ended down calls quiet = record {
   works = works;
   bus = bus;
+  ended = ended;
+  down = down;
   rooted = opened_rooted pages least most;
   denoted = opens_denoted pages least most;
   windowed = opens_windowed pages least most;
   registers = registers_first (new_image pages);
-  timeless = record { clock = refl; latest = refl; ended = refl };
+  timeless = record { clock = refl; latest = refl; ended = refl; up = refl };
   users = record { creds = λ process cred among. absurd (contains_none (process, cred) among); housed = λ thread process among. absurd (contains_none (thread, process) among) };
   each = λ t. subst (StandsAs (world_of (new_image pages)) t) (sym (quiet t)) (refl, opens_bare pages least most t);
   alone = λ t u one other is_one is_other. absurd (some_none one (sym is_one ∙ quiet t));

@@ -37,6 +37,7 @@ seen_in w v = record {
       latest = v.base.machine.latest;
       begun = v.base.machine.begun;
       ended = v.base.machine.ended;
+      down = v.base.machine.down;
     };
     seats = v.base.seats;
     table = w.base.table;

@@ -101,11 +101,13 @@ module _ (w : World) (m : MachineView) (calls : ℕ → Option Waiting) (k : Sta
     call_stands = record {
       works = k.works;
       bus = k.bus;
+      ended = k.ended;
+      down = k.down;
       rooted = rooted_seen w given k.rooted;
       denoted = denoted_seen w given k.denoted;
       windowed = given_windowed;
       registers = k.registers;
-      timeless = record { clock = k.timeless.clock; latest = k.timeless.latest; ended = k.timeless.ended };
+      timeless = record { clock = k.timeless.clock; latest = k.timeless.latest; ended = k.timeless.ended; up = k.timeless.up };
       users = k.users;
       each = λ t. each_by t (cases_eq t thread);
       alone = λ t u one other is_one is_other. only t one is_one (cases_eq t thread) ∙ sym (only u other is_other (cases_eq u thread));
@@ -173,7 +175,7 @@ module _ (w : World) (m : MachineView) (calls : ℕ → Option Waiting) (k : Sta
       table = goes.knows.rooted.table;
     }
 
-    module _ (next : MachineView) (moved : next ≡ with_bus (bus_after thread now action answer m.bus)) (after : Waiting) (thread_is : after.call.value.session.thread ≡ waiting.call.value.session.thread) (command_is : after.call.value.session.command ≡ waiting.call.value.session.command) (leads : LeadsTo waiting.call.value.session.thread waiting.call.value.session.command waiting.call.value.session.stage answer after.call.value.session.stage after.call.value.next) (runs : RunsOn after.call.value.session.stage after.call.value.next) (gives : GivesAction after.call.value.next) where
+    module _ (next : MachineView) (moved : next ≡ with_bus m (bus_after thread now action answer m.bus)) (after : Waiting) (thread_is : after.call.value.session.thread ≡ waiting.call.value.session.thread) (command_is : after.call.value.session.command ≡ waiting.call.value.session.command) (leads : LeadsTo waiting.call.value.session.thread waiting.call.value.session.command waiting.call.value.session.stage answer after.call.value.session.stage after.call.value.next) (runs : RunsOn after.call.value.session.stage after.call.value.next) (gives : GivesAction after.call.value.next) where
       ready_then : IsReady acted thread after
       ready_then = record {
         thread_is = thread_is ∙ ready_now.thread_is;
@@ -187,13 +189,15 @@ module _ (w : World) (m : MachineView) (calls : ℕ → Option Waiting) (k : Sta
 
       pub act_stands : Stands acted next (put calls thread (Some after))
       act_stands = record {
-        works = ap (λ (x : MachineView). x.failed) moved;
+        works = ap (λ (x : MachineView). x.failed) moved ∙ k.works;
         bus = ap (λ (x : MachineView). x.bus) moved ∙ ap (λ (b : Bus). bus_after thread now action answer b) k.bus;
+        ended = ap (λ (x : MachineView). x.ended) moved ∙ k.ended;
+        down = ap (λ (x : MachineView). x.down) moved ∙ k.down;
         rooted = goes.knows.rooted;
         denoted = goes.denoted;
         windowed = act_windowed;
         registers = registers_next w act act_next.comes k.registers;
-        timeless = record { clock = k.timeless.clock; latest = omega (arith, k.timeless.clock, due.1); ended = k.timeless.ended };
+        timeless = record { clock = k.timeless.clock; latest = omega (arith, k.timeless.clock, due.1); ended = k.timeless.ended; up = k.timeless.up };
         users = record { creds = k.users.creds; housed = k.users.housed };
         each = λ t. each_by t (cases_eq t thread);
         alone = λ t u one other is_one is_other. only t one is_one (cases_eq t thread) ∙ sym (only u other is_other (cases_eq u thread));
@@ -246,11 +250,13 @@ module _ (w : World) (m : MachineView) (calls : ℕ → Option Waiting) (k : Sta
     reply_stands = record {
       works = k.works;
       bus = k.bus;
+      ended = k.ended;
+      down = k.down;
       rooted = rooted_seen w ended k.rooted;
       denoted = denoted_seen w ended k.denoted;
       windowed = ended_windowed;
       registers = k.registers;
-      timeless = record { clock = k.timeless.clock; latest = k.timeless.latest; ended = k.timeless.ended };
+      timeless = record { clock = k.timeless.clock; latest = k.timeless.latest; ended = k.timeless.ended; up = k.timeless.up };
       users = k.users;
       each = λ t. each_by t (cases_eq t thread);
       alone = λ t u one other is_one is_other. absurd (nobody t one is_one (cases_eq t thread));

@@ -42,11 +42,12 @@ abbrev pub StandsAs : World → ℕ → Option Waiting → Type 0
 StandsAs w thread None = (w.base.seats thread ≡ None) × IsBare w.base.machine.bus thread
 StandsAs w thread (Some waiting) = IsReady w thread waiting
 
--- no tick has passed, and no process has ended, since no event does either
+-- no tick has passed, no process has ended, and no crash has come, since no event does any of these
 pub record IsTimeless (m : Machine) : Type 0 where
   pub clock : m.clock ≡ 0
   pub latest : m.latest ≡ 0
   pub ended : m.ended ≡ []
+  pub up : m.down ≡ false
 
 -- all users are uid 0, and each thread is of a process that was started
 pub record AreRoots (bus : Bus) : Type 0 where
@@ -57,6 +58,8 @@ pub record AreRoots (bus : Bus) : Type 0 where
 pub record Stands (w : World) (m : MachineView) (calls : ℕ → Option Waiting) : Type 0 where
   pub works : m.failed ≡ false
   pub bus : m.bus ≡ w.base.machine.bus
+  pub ended : m.ended ≡ w.base.machine.ended
+  pub down : m.down ≡ w.base.machine.down
   pub rooted : IsRooted w
   pub denoted : IsDenoted w
   pub windowed : IsWindowed w

@@ -1,5 +1,5 @@
 -- What a core does on its machine and trace.
-use Rattle.std.specs.Prelude.{◌≡◌, ℕ, ◌<◌, List, [], ◌∷◌, ◌++◌, Option, Some, None}
+use Rattle.std.specs.Prelude.{◌≡◌, ℕ, ◌<◌, List, [], ◌∷◌, ◌++◌, Option, Some, None, false}
 use Rattle.bus_model.specs.Machine.{Bus, ProcessWasStarted, ThreadWasStarted, Answers, IsStored, bus_after, with_process, with_thread}
 use Rattle.bus_machine.specs.Calls.{with_bus}
 use Rattle.bus_machine.specs.View.{MachineView}
@@ -34,7 +34,7 @@ pub record Begins (thread : ℕ) (command : Command) (waiting : Waiting) : Type 
 pub record Acts (session : Session) (thread now : ℕ) (mark : Mark) (action : Action) (old new : MachineView) (trace longer : List Entry) (after : Waiting) : Type 0 where
   pub answer : Answer
   pub answers : Answers old.bus thread now action answer
-  pub machine : new ≡ with_bus (bus_after thread now action answer old.bus)
+  pub machine : new ≡ with_bus old (bus_after thread now action answer old.bus)
   pub gains : longer ≡ trace ++ entry.Act thread now mark action answer ∷ []
   pub thread_is : after.call.value.session.thread ≡ session.thread
   pub command_is : after.call.value.session.command ≡ session.command
@@ -51,6 +51,10 @@ StepsBy session next thread now old new trace longer after = ⊥
 abbrev pub Steps : Waiting → ℕ → ℕ → MachineView → MachineView → List Entry → List Entry → Option Waiting → Type 0
 Steps waiting thread now old new trace longer after = StepsBy waiting.call.value.session waiting.call.value.next thread now old new trace longer after
 
+-- no crash has come, and no process has ended
+abbrev pub NobodyHasEnded : MachineView → Type 0
+NobodyHasEnded m = (m.down ≡ false) × (m.ended ≡ [])
+
 -- the machine can do the event
 abbrev pub CanHappen : Bus → FaultEvent → Type 0
 CanHappen bus (event.Mkfs pages) = Unit {0}
@@ -62,13 +66,13 @@ CanHappen bus (event.Stray thread addr word) = ThreadWasStarted bus thread
 pub record Strays (thread addr word : ℕ) (old new : MachineView) (e : Entry) : Type 0 where
   pub answer : Answer
   pub stored : IsStored old.bus thread addr answer
-  pub machine : new ≡ with_bus (bus_after thread 0 (Store addr word) answer old.bus)
+  pub machine : new ≡ with_bus old (bus_after thread 0 (Store addr word) answer old.bus)
   pub entry_is : e ≡ entry.Stray thread addr word answer
 
 abbrev pub HappensBy : FaultEvent → MachineView → MachineView → Entry → Type 0
 HappensBy (event.Mkfs pages) old new e = (new ≡ old) × (e ≡ entry.Mkfs pages)
-HappensBy (event.Process process cred) old new e = (new ≡ with_bus (with_process process cred old.bus)) × (e ≡ entry.Process process cred)
-HappensBy (event.Thread thread process) old new e = (new ≡ with_bus (with_thread thread process old.bus)) × (e ≡ entry.Thread thread process)
+HappensBy (event.Process process cred) old new e = (new ≡ with_bus old (with_process process cred old.bus)) × (e ≡ entry.Process process cred)
+HappensBy (event.Thread thread process) old new e = (new ≡ with_bus old (with_thread thread process old.bus)) × (e ≡ entry.Thread thread process)
 HappensBy (event.Stray thread addr word) old new e = Strays thread addr word old new e
 
 abbrev pub Happens : FaultEvent → MachineView → MachineView → List Entry → List Entry → Type 0

@@ -1,11 +1,11 @@
 // What a core does on its machine and trace: the begin of a call, a step of one, an event.
 ghost use Rattle.std.specs.Prelude.{◌≡◌, ◌++◌, ◌∷◌, [], MatchResult, IfOk, OnErr, Ok, false};
-ghost use Rattle.std.specs.Result.{IsErr};
+ghost use Rattle.std.specs.Result.{IsErr, IsErrOf};
 ghost use Rattle.zo_model.specs.Commands.{IsCommand};
 ghost use Rattle.bus_model.specs.Machine.{ThreadWasStarted};
 ghost use Rattle.tr_types.specs.declared.entry.Entry.TheVariants as entry;
 ghost use Rattle.tr_dispatch.specs.Sessions.{GivesAction, RunsOn};
-ghost use Rattle.tr_core.specs.Steps.{Begins, CanHappen, Happens, HappensBy, Steps};
+ghost use Rattle.tr_core.specs.Steps.{Begins, CanHappen, Happens, HappensBy, NobodyHasEnded, Steps};
 
 use crate::calls::{Ready, Waiting};
 use crate::event::FaultEvent;
@@ -49,6 +49,7 @@ pub fn step(
     mut waiting: Waiting,
 ) -> Result<Option<Waiting>, AllocError>
     requires works { machine.old.failed ≡ false }
+    requires up { NobodyHasEnded machine.old }
     requires started { ThreadWasStarted machine.old.bus thread }
     requires runs { RunsOn waiting.call.value.session.stage waiting.call.value.next }
     requires gives { GivesAction waiting.call.value.next }
@@ -59,9 +60,7 @@ pub fn step(
     // The step is taken out; nothing reads what stands there until the next one does.
     match mem::replace(&mut call.next, SessionStep::Over(Reply::Made)) {
         SessionStep::Act(action, mark) => {
-            let Ok(answer) = machine.act(thread, now, &action) else {
-                return Err(AllocError);
-            };
+            let answer = done(machine.act(thread, now, &action))?;
             call.next = call.session.next(alloc, Some(&answer), now)?;
             trace.push(Entry::Act {
                 thread,
@@ -87,6 +86,7 @@ pub fn happen(
     event: &FaultEvent,
 ) -> Result<(), AllocError>
     requires works { machine.old.failed ≡ false }
+    requires up { NobodyHasEnded machine.old }
     requires can { CanHappen machine.old.bus event.now }
     ensures { MatchResult result (λ _. Happens event.now machine.old machine.new trace.old trace.new) (λ _. trace.new ≡ trace.old) }
 {
@@ -96,6 +96,7 @@ pub fn happen(
 // The entry of an event, which has come about on the machine.
 fn entry_of(alloc: Global, machine: &mut Machine, event: &FaultEvent) -> Result<Entry, AllocError>
     requires works { machine.old.failed ≡ false }
+    requires up { NobodyHasEnded machine.old }
     requires can { CanHappen machine.old.bus event.now }
     ensures { IfOk result (HappensBy event.now machine.old machine.new) }
 {
@@ -127,10 +128,12 @@ fn entry_of(alloc: Global, machine: &mut Machine, event: &FaultEvent) -> Result<
 
 // Of the machine's faults none can come here but want of memory.
 fn done<T>(told: Result<T, BusFault>) -> Result<T, AllocError>
+    requires { (fault : BusFault) → IsErrOf told fault → fault ≡ BusFault.NoMemory }
     ensures { MatchResult told (λ x. result ≡ Ok x) (λ _. IsErr result) }
 {
     match told {
         Ok(x) => Ok(x),
-        Err(_) => Err(AllocError),
+        Err(BusFault::NoMemory) => Err(AllocError),
+        Err(_) => unreachable!(),
     }
 }

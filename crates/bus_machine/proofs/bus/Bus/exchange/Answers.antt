@@ -4,7 +4,7 @@ use Rattle.bus_model.specs.Machine.{store_refusal}
 use Rattle.bus_machine.specs.View.{MachineView}
 use Rattle.bus_machine.specs.Ties.{bus_of, AreTied}
 use Rattle.bus_machine.proofs.Accesses.{store_address}
-use Rattle.bus_machine.proofs.Stores.{tied_exchanged}
+use Rattle.bus_machine.proofs.Stores.{tied_exchanged, whole}
 use Rattle.bus_machine.proofs.bus.Bus.exchange.Goals as goal
 
 pub cas-requires : goal.cas-requires
@@ -14,8 +14,9 @@ cas-requires c =
     (ap (λ (v : MachineView). store_refusal v.bus c.args.thread c.args.addr) c.self.view_is ∙ sym c.store_refusal.ensures ∙ c.in-None.is)
 
 pub invariant_of-self-in-None : goal.invariant_of-self-in-None
-invariant_of-self-in-None c = λ works.
+invariant_of-self-in-None c =
     let self = c.self.inside in
+    whole c.self.invariant.count (λ works.
     subst (λ (ws : List Word). AreTied ws self.kernel self.pkrus.items) (sym c.in_ok-found-in-None.ensures.ok)
-    (tied_exchanged self.words self.kernel self.pkrus.items (c.self.invariant works) c.args.thread c.args.addr c.args.old c.args.new c.store_law.ensures
-    (ap (λ (v : MachineView). store_refusal v.bus c.args.thread c.args.addr) c.self.view_is ∙ sym c.store_refusal.ensures ∙ c.in-None.is))
+    (tied_exchanged self.words self.kernel self.pkrus.items (c.self.invariant.tied works) c.args.thread c.args.addr c.args.old c.args.new c.store_law.ensures
+    (ap (λ (v : MachineView). store_refusal v.bus c.args.thread c.args.addr) c.self.view_is ∙ sym c.store_refusal.ensures ∙ c.in-None.is)))

@@ -5,7 +5,10 @@ use Rattle.bus_machine.specs.View.{MachineView}
 use Rattle.bus_machine.proofs.Started.{thread_iff}
 use Rattle.bus_machine.proofs.bus.Bus.has_thread.Goals as goal
 
-pub returns : goal.returns
-returns c =
+pub returns-clause-was : goal.returns-clause-was
+returns-clause-was c =
     subst (λ (v : MachineView). IsTrue c.is_some.result ↔ ThreadWasStarted v.bus c.args.thread) c.self.view_is
-    (thread_iff c.self.inside.kernel.callers.threads c.args.thread c.is_some.result (c.is_some.ensures ∙ ap (λ (o : Option ℕ). is_some o) c.process_of.ensures))
+    (thread_iff c.self.inside.kernel.callers.threads c.args.thread c.is_some.result (c.is_some.ensures ∙ ap (λ (o : Option ℕ). is_some o) c.process_of.ensures.process))
+
+pub returns-clause-housed : goal.returns-clause-housed
+returns-clause-housed c = rw (← c.self.view_is) (c.process_of.ensures.started)

@@ -2,7 +2,7 @@ use Rattle.std.proofs.Common.{ℕ, ◌/◌, sym, ap, subst, ◌∙◌, arith, �
 use Rattle.kern_model.specs.Kernel.{kernel_owner}
 use Rattle.bus_model.specs.Machine.{ThreadWasStarted, pkru_of, load_refusal}
 use Rattle.kern_model.specs.Rights.{load_fault}
-use Rattle.bus_machine.specs.View.{MachineView}
+use Rattle.bus_machine.specs.View.{MachineView, IsUp}
 use Rattle.bus_machine.specs.Ties.{bus_of}
 use Rattle.bus_machine.proofs.Accesses.{page_inside, load_by_rights}
 use Rattle.bus_machine.proofs.Started.{has_number}
@@ -11,7 +11,7 @@ use Rattle.bus_machine.proofs.bus.Bus.load_refusal.Goals as goal
 pub overflow_cast-page : goal.overflow_cast-page
 overflow_cast-page c =
     let self = c.self.inside in
-    let tied = c.self.invariant (ap (λ (v : MachineView). v.failed) c.self.view_is ∙ c.requires.works) in
+    let tied = c.self.invariant.tied (subst IsUp (sym c.self.view_is) c.requires.works) in
     let size = tied.mounted.working.size in
     let word = sym c.has_word.ensures ∙ c.if-not-has_word.false in
     let inside = page_inside self.words c.args.addr size word in
@@ -24,7 +24,7 @@ may_load-requires c = has_number c.self.inside.kernel.callers.threads c.args.thr
 pub returns : goal.returns
 returns c =
     let self = c.self.inside in
-    let tied = c.self.invariant (ap (λ (v : MachineView). v.failed) c.self.view_is ∙ c.requires.works) in
+    let tied = c.self.invariant.tied (subst IsUp (sym c.self.view_is) c.requires.works) in
     let mounted = tied.mounted in
     let word = sym c.has_word.ensures ∙ c.if-not-has_word.false in
     let inside = page_inside self.words c.args.addr mounted.working.size word in

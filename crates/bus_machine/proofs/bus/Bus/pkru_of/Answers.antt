@@ -2,12 +2,12 @@ use Rattle.std.proofs.Common.{◌≡◌, ◌<◌, ℕ, List, length, slice_index
 use Rattle.std.proofs.lemmas.List.{get_or_read}
 use Rattle.bus_model.specs.Machine.{ThreadWasStarted, pkru_of}
 use Rattle.kern_model.specs.Rights.{closed_pkru}
-use Rattle.bus_machine.specs.View.{MachineView}
+use Rattle.bus_machine.specs.View.{MachineView, IsUp}
 use Rattle.bus_machine.proofs.bus.Bus.pkru_of.Goals as goal
 
 pub index-requires : goal.index-requires
 index-requires c =
-    let tied = c.self.invariant (ap (λ (v : MachineView). v.failed) c.self.view_is ∙ c.requires.works) in
+    let tied = c.self.invariant.tied (subst IsUp (sym c.self.view_is) c.requires.works) in
     let count = tied.registers.count in
     let small = tied.registers.small c.args.thread (subst (λ (v : MachineView). ThreadWasStarted v.bus c.args.thread) (sym c.self.view_is) c.requires.started) in
     let same = c.from.ensures in
@@ -15,7 +15,7 @@ index-requires c =
 
 pub returns : goal.returns
 returns c =
-    let tied = c.self.invariant (ap (λ (v : MachineView). v.failed) c.self.view_is ∙ c.requires.works) in
+    let tied = c.self.invariant.tied (subst IsUp (sym c.self.view_is) c.requires.works) in
     let count = tied.registers.count in
     let small = tied.registers.small c.args.thread (subst (λ (v : MachineView). ThreadWasStarted v.bus c.args.thread) (sym c.self.view_is) c.requires.started) in
     let same = c.from.ensures in

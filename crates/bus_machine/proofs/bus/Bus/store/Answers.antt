@@ -4,7 +4,7 @@ use Rattle.bus_model.specs.Machine.{store_refusal}
 use Rattle.bus_machine.specs.View.{MachineView}
 use Rattle.bus_machine.specs.Ties.{bus_of, AreTied}
 use Rattle.bus_machine.proofs.Accesses.{store_address}
-use Rattle.bus_machine.proofs.Stores.{tied_stored}
+use Rattle.bus_machine.proofs.Stores.{tied_stored, whole}
 use Rattle.bus_machine.proofs.bus.Bus.store.Goals as goal
 
 pub store-requires : goal.store-requires
@@ -14,8 +14,9 @@ store-requires c =
     (ap (λ (v : MachineView). store_refusal v.bus c.args.thread c.args.addr) c.self.view_is ∙ sym c.store_refusal.ensures ∙ c.in-None.is)
 
 pub invariant_of-self-in-None : goal.invariant_of-self-in-None
-invariant_of-self-in-None c = λ works.
+invariant_of-self-in-None c =
     let self = c.self.inside in
+    whole c.self.invariant.count (λ works.
     subst (λ (ws : List Word). AreTied ws self.kernel self.pkrus.items) (sym c.in_ok-store-in-None.ensures.ok)
-    (tied_stored self.words self.kernel self.pkrus.items (c.self.invariant works) c.args.thread c.args.addr c.args.word c.store_law.ensures
-    (ap (λ (v : MachineView). store_refusal v.bus c.args.thread c.args.addr) c.self.view_is ∙ sym c.store_refusal.ensures ∙ c.in-None.is))
+    (tied_stored self.words self.kernel self.pkrus.items (c.self.invariant.tied works) c.args.thread c.args.addr c.args.word c.store_law.ensures
+    (ap (λ (v : MachineView). store_refusal v.bus c.args.thread c.args.addr) c.self.view_is ∙ sym c.store_refusal.ensures ∙ c.in-None.is)))

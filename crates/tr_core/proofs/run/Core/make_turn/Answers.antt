@@ -2,7 +2,7 @@ use Rattle.std.proofs.Common.{◌≡◌, Bool, true, false, not, Option, Some, N
 use Rattle.tr_core.specs.declared.calls.Waiting.{Waiting}
 use Rattle.tr_core.specs.Places.{place_in}
 use Rattle.tr_core.proofs.Puts.{put_twice}
-use Rattle.tr_core.proofs.Keeps.{turn_all, small_now, has_call}
+use Rattle.tr_core.proofs.Keeps.{turn_all, small_now, has_call, nobody_ended}
 use Rattle.tr_core.proofs.run.Core.make_turn.Goals as goal
 
 ended_is : (o : Option Waiting) (b : Bool) → is_some o ≡ not b → b ≡ is_none o
@@ -34,3 +34,6 @@ returns-in-Ok c =
     (λ t. c.set.ensures t ∙ put_twice (place_in c.self.inside.calls) (place_in c.take.new.self) c.args.thread None c.in-Ok.after c.in-Some.ensures.left t)
     (record { position = c.len.result; ended = c.is_none-ended.result }) c.len.ensures (ended_is c.in-Ok.after c.is_none-ended.result c.is_none-ended.ensures) in
     all.1
+
+pub step-requires-clause-up : goal.step-requires-clause-up
+step-requires-clause-up c = nobody_ended c.self.inside.opening c.self.inside.trace c.self.inside.machine c.self.inside.calls c.self.inside.failed c.args.self.now c.self.view_is c.self.invariant c.requires.works

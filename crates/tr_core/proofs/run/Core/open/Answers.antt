@@ -23,7 +23,7 @@ invariant_of-result c =
       λ works.
           subst (λ (t : List Entry). Stands (world_after c.opening.inside.words.items t) c.in-Ok.machine (place_in c.in_ok-new.field-0)) (sym c.new-2.ensures)
           (subst (λ (i : List ℕ). Stands (world_of i) c.in-Ok.machine (place_in c.in_ok-new.field-0)) (sym image)
-          (opens_standing c.requires.pages c.requires.least c.requires.most c.in-Ok.machine c.in-Ok.ensures.works bus (place_in c.in_ok-new.field-0) c.in_ok-new.ensures)),
+          (opens_standing c.requires.pages c.requires.least c.requires.most c.in-Ok.machine c.in-Ok.ensures.works bus c.in-Ok.ensures.up.1 c.in-Ok.ensures.up.0 (place_in c.in_ok-new.field-0) c.in_ok-new.ensures)),
     )
 
 pub returns-clause-opening : goal.returns-clause-opening
