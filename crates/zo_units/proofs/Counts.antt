@@ -1,11 +1,11 @@
 -- How many names a directory has without the dropped commits.
-use Rattle.std.proofs.Common.{◌≡◌, ◌≢◌, ◌⊎◌, inl, inr, ℕ, ◌+◌, Bool, true, false, cond, List, [], ◌∷◌, ◌++◌, length, map, filter, Option, Some, None, refl, sym, ap, subst, ◌∙◌, arith}
+use Rattle.std.proofs.Common.{◌≡◌, ◌≢◌, ◌⊎◌, inl, inr, ℕ, ◌+◌, Bool, true, false, cond, List, [], ◌∷◌, ◌++◌, length, map, filter, Option, Some, None, refl, sym, ap, ◌∙◌}
 use Rattle.std.proofs.lemmas.Bool.{cond-true, cond-false}
 use Rattle.std.specs.List.{IsDistinct}
 use Rattle.zo_model.specs.Tree.{Member, Node, node_at, same_names, is_child}
 use Rattle.zo_laws.proofs.MemberLemmas.{same_names_decides, cases_names, names_unlike, one_member, node_new, node_other, once_more}
 use Rattle.zo_laws.proofs.NameCounts.{children_same, children_more}
-use Rattle.zo_units.specs.Units.{Undo, Commitment, Lasts, above, undone, picked, node_left, IsLeftTree}
+use Rattle.zo_units.specs.Units.{Undo, Commitment, Lasts, undone, picked, node_left, IsLeftTree}
 use Rattle.zo_units.specs.UnitLaws.{CountLaw}
 use Rattle.zo_units.proofs.Nodes.{above_push}
 

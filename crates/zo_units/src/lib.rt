@@ -7,6 +7,6 @@ mod units;
 
 pub use memory::{crash_law, memory_law, mend_law, own_law};
 pub use units::{
-    aside_law, commit_law, count_law, drops_law, flush_law, grow_law, recover_law, spare_law, start_law,
-    store_law, survive_law, use_law,
+    aside_law, commit_law, count_law, drops_law, flush_law, grow_law, recover_law, spare_law,
+    start_law, store_law, survive_law, use_law,
 };
