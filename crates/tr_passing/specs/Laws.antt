@@ -1,11 +1,11 @@
 -- The laws of replays: whatever of these changes a crash drops, the trace is legal without them, and what users see then differs
 -- by the last changes of units alone.
-use Rattle.std.specs.Prelude.{◌≡◌, ◌≢◌, ◌⊎◌, ℕ, ◌/◌, ◌<◌, ◌≤◌, List, [], ◌∷◌, ◌++◌, length, Contains, Bool, true, false, Option, Some, None}
+use Rattle.std.specs.Prelude.{◌≡◌, ℕ, ◌/◌, ◌<◌, ◌≤◌, List, [], ◌∷◌, ◌++◌, length, Contains, Bool, true, Some}
 use Rattle.pm_words.specs.Memory.{word_at}
 use Rattle.zo_model.specs.Tree.{Directory, node_at}
 use Rattle.zo_model.specs.Alone.{root_perm}
-use Rattle.zo_model.specs.Answers.{answer, is_success}
-use Rattle.zo_model.specs.Legal.{Fixed, verdict_of}
+use Rattle.zo_model.specs.Answers.{answer}
+use Rattle.zo_model.specs.Legal.{verdict_of}
 use Rattle.zo_model.specs.Commands.{IsCommand}
 use Rattle.zo_model.specs.Seats.{Lease}
 use Rattle.bus_model.specs.Machine.{Fits}
@@ -15,22 +15,14 @@ use Rattle.tr_types.specs.declared.action.Answer.{Answer}
 use Rattle.tr_types.specs.declared.command.Command.{Command}
 use Rattle.tr_types.specs.declared.entry.Entry.{Entry}
 use Rattle.tr_types.specs.declared.entry.Entry.TheVariants as entry
-use Rattle.tr_types.specs.declared.entry.Mark.{Mark}
 use Rattle.tr_types.specs.declared.entry.Mark.TheVariants as mark
-use Rattle.tr_types.specs.declared.entry.Pick.{Pick}
 use Rattle.tr_types.specs.declared.permission.Cred.{Cred}
-use Rattle.tr_model.specs.Worlds.{Row, Standing, IsReady, root_row}
+use Rattle.tr_model.specs.Worlds.{Row, Standing, root_row}
 use Rattle.tr_replay.specs.Seats.{Seat}
-use Rattle.tr_replay.specs.Verdicts.{verdict_at, outlook_at}
-use Rattle.tr_replay.specs.Worlds.{Base, Commit, World, replay_of, dropped, or_dropped, places_of, floor, never, base_after, stepped, world_of, world_after, coffers_by, coffers_at}
-use Rattle.tr_replay.specs.Legal.{MayCome, IsInCall, IsKnownCall, IsLegalBy, MayCommit}
+use Rattle.tr_replay.specs.Worlds.{Base, Commit, World, replay_of, dropped, floor, base_after, stepped, world_of, world_after, coffers_by, coffers_at}
+use Rattle.tr_replay.specs.Legal.{MayCome, IsInCall, IsLegalBy, MayCommit}
 use Rattle.tr_replay.specs.Crashes.{IsLeft, IsReadyAt, IsUnanswered, IsLastUnder}
-use Rattle.tr_passing.specs.Units.{Last, Units, IsOpen, units_after, IsAtRisk, Allowed, node_left, count_left, members_in}
-
--- the entry's kernel call, if it is one, is known
-abbrev pub IsKnown : Entry → Type 0
-IsKnown (entry.Act thread now m action given) = IsKnownCall action
-IsKnown e = Unit {0}
+use Rattle.tr_passing.specs.Units.{Last, Units, IsOpen, units_after, Allowed, node_left, count_left, members_in}
 
 -- the root coffer is the only one, however it stands
 abbrev pub root_standing : Standing → Row
@@ -53,10 +45,10 @@ pub record IsTidy (b : Base) : Type 0 where
 
 -- an entry that is none of a crash takes nothing back
 abbrev pub FloorRises : Type 0
-FloorRises = (b : Base) (e : Entry) → IsTidy b → Fits b.machine e → IsKnown e → (addr : ℕ) → floor b addr ≤ floor (base_after b e) addr
+FloorRises = (b : Base) (e : Entry) → IsTidy b → Fits b.machine e → (addr : ℕ) → floor b addr ≤ floor (base_after b e) addr
 
 abbrev pub TidyMore : Type 0
-TidyMore = (b : Base) (e : Entry) → IsTidy b → Fits b.machine e → IsKnown e → IsTidy (base_after b e)
+TidyMore = (b : Base) (e : Entry) → IsTidy b → Fits b.machine e → IsTidy (base_after b e)
 
 -- the change is the last of a unit
 pub record HasUnit (units : Units) (c : Commit) : Type 0 where
@@ -100,7 +92,7 @@ pub record Owes (w : World) (units : Units) (e : Entry) : Type 0 where
   pub leases : (c : Commit) → Contains (base_after w.base e).commits c → c.position ≡ w.base.count → IsFreeOf w.base c.held
 
 abbrev pub AllowedBefore : Type 0
-AllowedBefore = (drops : ℕ → Bool) (w : World) (units : Units) (e : Entry) → IsTidy w.base → IsOrdered w units → MayCome w e → IsKnown e → Allowed drops (stepped w e) (units_after w e units) → Allowed drops w units
+AllowedBefore = (drops : ℕ → Bool) (w : World) (units : Units) (e : Entry) → IsTidy w.base → IsOrdered w units → MayCome w e → Allowed drops (stepped w e) (units_after w e units) → Allowed drops w units
 
 abbrev pub OrderedMore : Type 0
 OrderedMore = (w : World) (units : Units) (e : Entry) → IsTidy w.base → IsOrdered w units → Owes w units e → IsOrdered (stepped w e) (units_after w e units)

@@ -1,7 +1,7 @@
 -- What a crash may still drop, told by units. A unit is a directory of a coffer: the names directly in it. Of each unit the last
 -- change is kept until its call has its reply, with what stood there before it. The world has no units: they are beside it, and only
 -- laws speak of them.
-use Rattle.std.specs.Prelude.{◌≡◌, ℕ, ◌<◌, ◌==◌, List, [], ◌∷◌, length, filter, drop, Contains, Bool, true, false, not, ◌&&◌, Option, Some, None, if◌then◌else◌, nat_le}
+use Rattle.std.specs.Prelude.{◌≡◌, ℕ, ◌<◌, ◌==◌, List, [], ◌∷◌, length, filter, drop, Contains, Bool, true, false, ◌&&◌, Option, Some, None, if◌then◌else◌, nat_le}
 use Rattle.tr_types.specs.Paths.{names_of}
 use Rattle.tr_types.specs.declared.action.Action.{Action}
 use Rattle.tr_types.specs.declared.action.Answer.{Answer}
