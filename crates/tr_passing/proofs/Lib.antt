@@ -6,3 +6,13 @@ pub mod Rising
 pub mod Growth
 -- commits, seats and the table after an entry
 pub mod Orders
+-- which entries move the trees
+pub mod Moves
+-- how the units stand to the world
+pub mod Keeping
+-- the units stand to the world as before
+pub mod Ordering
+-- what users see without dropped changes
+pub mod Differing
+-- one more entry keeps all
+pub mod Living

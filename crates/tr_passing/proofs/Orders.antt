@@ -131,7 +131,7 @@ lose_alone path s = by (same_names [] path)
     by true = record { standing = lost_standing s; is = refl }
     by false = record { standing = s; is = refl }
 
-losing_alone : (o : Option (List (List ℕ))) (table : List Row) → IsAlone table → IsAlone (losing o table)
+pub losing_alone : (o : Option (List (List ℕ))) (table : List Row) → IsAlone table → IsAlone (losing o table)
 losing_alone None table alone = alone
 losing_alone (Some path) table alone = subst (λ (rows : List Row). IsAlone (losing (Some path) rows)) (sym alone.is) (lose_alone path alone.standing)
 

@@ -2,7 +2,7 @@
 //! definitions alone.
 #![tactic(auto)]
 
-ghost use Rattle.tr_passing.specs.Laws.{FloorRises, TidyMore};
+ghost use Rattle.tr_passing.specs.Laws.{AllowedBefore, CrashLaw, DiffersMore, DroppedAllowed, FloorRises, LiveMore, OrderedMore, TidyMore};
 
 /// What a crash may leave of a word only grows less, until it crashes.
 pub fn floor_law()
@@ -12,4 +12,34 @@ pub fn floor_law()
 /// What holds in every world that entries lead to.
 pub fn tidy_law()
     ensures { TidyMore }
+{}
+
+/// What a crash may drop after an entry, it might have dropped before.
+pub fn allowed_law()
+    ensures { AllowedBefore }
+{}
+
+/// The units stand to the world as before, after an entry that does what it owes.
+pub fn ordered_law()
+    ensures { OrderedMore }
+{}
+
+/// What a crash drops is allowed.
+pub fn dropped_law()
+    ensures { DroppedAllowed }
+{}
+
+/// The trace is legal without what a crash drops, and only changes without a reply are dropped, on which no later one rests.
+pub fn legal_law()
+    ensures { CrashLaw }
+{}
+
+/// What users see without dropped changes differs from what they see by the last changes of units alone.
+pub fn differs_law()
+    ensures { DiffersMore }
+{}
+
+/// One more entry that does what it owes keeps all of it.
+pub fn live_law()
+    ensures { LiveMore }
 {}
