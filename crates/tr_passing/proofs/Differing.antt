@@ -1,16 +1,16 @@
 -- What users see without dropped changes, after any entry that does what it owes.
-use Rattle.std.proofs.Common.{◌≡◌, ◌≢◌, ℕ, ◌+◌, ◌-◌, ◌<◌, ◌≤◌, ◌==◌, zero, suc, Bool, true, false, cond, not, ◌&&◌, if◌then◌else◌, List, [], ◌∷◌, ◌++◌, length, filter, take, nat_eq, refl, sym, ap, subst, ◌∙◌, inl, inr, ◌⊎◌, arith, Contains, Option, Some, None}
+use Rattle.std.proofs.Common.{◌≡◌, ◌≢◌, ℕ, ◌+◌, ◌-◌, ◌<◌, ◌==◌, suc, Bool, true, false, cond, ◌&&◌, if◌then◌else◌, List, [], ◌∷◌, ◌++◌, length, filter, take, refl, sym, ap, subst, ◌∙◌, inl, inr, ◌⊎◌, arith, Option, Some, None}
 use Rattle.std.specs.Cmp.Lexicographic.{pointwise_decides, bytes_decides}
 use Rattle.std.proofs.lemmas.Bool.{cases_eq, eq-eqb, ne_eqb, eqb-true, false≢true, false_from_ne_true}
-use Rattle.std.proofs.lemmas.List.{length-append, length-take-le}
+use Rattle.std.proofs.lemmas.List.{length-take-le}
 use Rattle.tr_types.specs.Paths.{names_of}
 use Rattle.tr_types.specs.declared.entry.Entry.{Entry}
 use Rattle.zo_model.specs.Tree.{Member, Node, FileOf, same_names, node_at, is_child}
 use Rattle.zo_model.specs.Coffers.{parent}
-use Rattle.tr_replay.specs.Worlds.{Base, Commit, World, never, replay_of, stepped}
-use Rattle.tr_passing.specs.Units.{Last, Units, Lasts, Undo, Allowed, IsAtRisk, IsOpen, units_after, kept_last, members_in, undone, node_by, node_left, count_by, count_left}
+use Rattle.tr_replay.specs.Worlds.{World, never, replay_of, stepped}
+use Rattle.tr_passing.specs.Units.{Last, Units, Lasts, Allowed, IsAtRisk, IsOpen, units_after, kept_last, members_in, undone, node_by, node_left, count_by, count_left}
 use Rattle.tr_passing.specs.Laws.{IsTidy, IsOrdered, Owes, IsAlike, Differs, DiffersMore}
-use Rattle.tr_passing.proofs.Growth.{file_of, with_file}
+use Rattle.tr_passing.proofs.Growth.{file_of}
 use Rattle.tr_passing.proofs.Orders.{new_position}
 use Rattle.tr_passing.proofs.Moves.{Rests, Tells, Moves, kind_of, allowed_never, new_last}
 use Rattle.tr_passing.proofs.Keeping.{allowed_before}
@@ -103,11 +103,11 @@ members_more (x ∷ tree) m q = by (is_child q x) (members_more tree m q)
     by true rest = suc_more (members_in (tree ++ m ∷ []) q) (members_in tree q) (if is_child q m then 1 else 0) rest
     by false rest = rest
 
-node_kept : (drops : ℕ → Bool) (o : Option Last) (names : List (List ℕ)) (node : Option Node) → ((last : Last) → o ≡ Some last → drops last.commit.position ≡ false) → node_by drops o names node ≡ node
+pub node_kept : (drops : ℕ → Bool) (o : Option Last) (names : List (List ℕ)) (node : Option Node) → ((last : Last) → o ≡ Some last → drops last.commit.position ≡ false) → node_by drops o names node ≡ node
 node_kept drops None names node free = refl
 node_kept drops (Some last) names node free = ap (λ (b : Bool). cond b (undone last.undo names node) node) (free last refl)
 
-count_kept : (drops : ℕ → Bool) (o : Option Last) (count : ℕ) → ((last : Last) → o ≡ Some last → drops last.commit.position ≡ false) → count_by drops o count ≡ count
+pub count_kept : (drops : ℕ → Bool) (o : Option Last) (count : ℕ) → ((last : Last) → o ≡ Some last → drops last.commit.position ≡ false) → count_by drops o count ≡ count
 count_kept drops None count free = refl
 count_kept drops (Some last) count free = ap (λ (b : Bool). cond b last.names count) (free last refl)
 

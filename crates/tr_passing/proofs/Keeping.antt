@@ -1,8 +1,7 @@
 -- How the units stand to the world, after any entry; and what a crash may drop.
-use Rattle.std.proofs.Common.{◌≡◌, ◌≢◌, ℕ, ◌+◌, ◌<◌, ◌≤◌, ◌==◌, zero, suc, Bool, true, false, cond, not, ◌&&◌, if◌then◌else◌, List, [], ◌∷◌, ◌++◌, length, get_or, nat_eq, nat_lt, refl, sym, ap, subst, ◌∙◌, inl, inr, ◌⊎◌, arith, Contains, Option, Some, None}
+use Rattle.std.proofs.Common.{◌≡◌, ℕ, ◌<◌, ◌==◌, Bool, true, false, cond, ◌&&◌, List, [], ◌∷◌, nat_lt, refl, sym, ap, subst, ◌∙◌, inl, inr, ◌⊎◌, arith, Contains, Option, Some, None}
 use Rattle.std.specs.List.{list_any}
-use Rattle.std.specs.Cmp.Lexicographic.{pointwise_decides, bytes_decides}
-use Rattle.std.proofs.lemmas.Bool.{cases_eq, cases_lt, eq-eqb, ne_eqb, eqb-true, ltb-true, or_cases, false≢true}
+use Rattle.std.proofs.lemmas.Bool.{eqb-true, ltb-true, or_cases, false≢true}
 use Rattle.tr_types.specs.Paths.{names_of}
 use Rattle.tr_types.specs.declared.entry.Entry.{Entry}
 use Rattle.tr_types.specs.declared.entry.Entry.TheVariants as entry
@@ -11,21 +10,16 @@ use Rattle.tr_types.specs.declared.action.Answer.{Answer}
 use Rattle.tr_types.specs.declared.command.Command.{Command}
 use Rattle.tr_types.specs.declared.command.Command.TheVariants.{Create, Stat}
 use Rattle.tr_types.specs.declared.entry.Mark.{Mark}
-use Rattle.tr_types.specs.Fold.{Each}
-use Rattle.tr_types.proofs.FoldLemmas.{state_after_more, Each_more}
 use Rattle.zo_model.specs.Tree.{same_names}
 use Rattle.zo_model.specs.Coffers.{parent}
-use Rattle.zo_model.specs.Seats.{Lease, is_commit}
-use Rattle.tr_model.specs.Worlds.{Standing, Row, put, root_row}
+use Rattle.tr_model.specs.Worlds.{Row}
 use Rattle.tr_replay.specs.Seats.{Seat}
-use Rattle.tr_replay.specs.Worlds.{Base, Commit, World, never, base_after, stepped, floor, is_dropped, dropped, is_stored, address_of, commit_of, moves, world_of, world_after}
-use Rattle.tr_replay.specs.Legal.{MayCome, IsLegalBy}
-use Rattle.tr_replay.specs.Crashes.{IsLeft, IsUnanswered, IsLastUnder}
+use Rattle.tr_replay.specs.Worlds.{Commit, World, base_after, stepped, floor, is_dropped, address_of, commit_of}
+use Rattle.tr_replay.specs.Legal.{MayCome}
 use Rattle.tr_passing.specs.Units.{Last, Units, Lasts, IsOpen, IsAtRisk, Allowed, put_last, making, lasts_in, lasts_by, row_at, is_move, units_if, units_by, units_after, kept_last}
-use Rattle.tr_passing.specs.Laws.{IsTidy, IsOrdered, HasUnit, Owes, AllowedBefore, DroppedAllowed}
+use Rattle.tr_passing.specs.Laws.{IsTidy, AllowedBefore, DroppedAllowed}
 use Rattle.tr_passing.proofs.Rising.{floor_rises}
 use Rattle.tr_passing.proofs.Orders.{IsNew, put_same, put_other, put_cases, commit_cases, commit_kept, new_position}
-use Rattle.tr_passing.proofs.Moves.{Rests, Tells, Moves, kind_of, allowed_never, moved_units, new_last}
 
 some_last : (a b : Last) → Some a ≡ Some b → a ≡ b
 some_last a b e = cc

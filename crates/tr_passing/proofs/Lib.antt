@@ -16,3 +16,7 @@ pub mod Ordering
 pub mod Differing
 -- one more entry keeps all
 pub mod Living
+-- replies under a still root directory
+pub mod Replies
+-- before any entry
+pub mod Starting

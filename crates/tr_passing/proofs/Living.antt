@@ -1,17 +1,14 @@
 -- One more entry keeps all; and what a crash leaves then.
-use Rattle.std.proofs.Common.{◌≡◌, ◌≢◌, ℕ, ◌+◌, ◌<◌, ◌≤◌, ◌==◌, zero, suc, Bool, true, false, cond, List, [], ◌∷◌, ◌++◌, length, nat_lt, refl, sym, ap, subst, ◌∙◌, inl, inr, ◌⊎◌, arith, Contains, Option, Some, None}
-use Rattle.std.proofs.lemmas.Bool.{cases_eq, eq-eqb, ne_eqb, false≢true}
-use Rattle.tr_types.specs.Fold.{Each}
+use Rattle.std.proofs.Common.{◌≡◌, ℕ, ◌<◌, ◌==◌, zero, suc, Bool, true, false, cond, List, [], ◌∷◌, ◌++◌, refl, sym, ap, subst, ◌∙◌, inl, inr, ◌⊎◌, arith, Contains, Some, None}
 use Rattle.tr_types.specs.Paths.{names_of}
 use Rattle.tr_types.proofs.FoldLemmas.{state_after_more, Each_more}
 use Rattle.tr_types.specs.declared.entry.Entry.{Entry}
 use Rattle.zo_model.specs.Tree.{Member, Node, Directory, FileOf, node_at}
 use Rattle.tr_model.specs.Worlds.{Row, Standing, IsReady, root_row}
-use Rattle.tr_replay.specs.Worlds.{Base, Commit, World, never, replay_of, dropped, floor, stepped, world_of, world_after}
+use Rattle.tr_replay.specs.Worlds.{Commit, World, never, replay_of, dropped, floor, stepped, world_of, world_after}
 use Rattle.tr_replay.specs.Legal.{IsLegalBy}
-use Rattle.tr_replay.specs.Crashes.{IsLeft, IsReadyAt, IsUnanswered, IsLastUnder}
 use Rattle.tr_passing.specs.Units.{Units, IsOpen, Allowed, units_after}
-use Rattle.tr_passing.specs.Laws.{IsTidy, IsAlone, IsReadyAlone, IsOrdered, Owes, Differs, IsPassed, HasFiles, IsLive, LiveMore, IsPassedBy, CrashLaw, root_standing}
+use Rattle.tr_passing.specs.Laws.{IsTidy, IsAlone, IsOrdered, Owes, Differs, HasFiles, LiveMore, CrashLaw, root_standing}
 use Rattle.tr_passing.proofs.Growth.{file_of}
 use Rattle.tr_passing.proofs.Orders.{tidy_more}
 use Rattle.tr_passing.proofs.Moves.{Rests, Tells, Moves, kind_of, allowed_never}

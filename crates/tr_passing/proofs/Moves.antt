@@ -1,9 +1,9 @@
 -- Which entries move the trees, and what they leave of the units.
-use Rattle.std.proofs.Common.{◌≡◌, ◌≢◌, ℕ, ◌+◌, ◌<◌, ◌≤◌, ◌==◌, zero, suc, Bool, true, false, cond, not, ◌&&◌, if◌then◌else◌, List, [], ◌∷◌, ◌++◌, length, nat_eq, refl, sym, ap, subst, ◌∙◌, inl, inr, ◌⊎◌, arith, Contains, Option, Some, None}
-use Rattle.std.proofs.lemmas.Bool.{cases_eq, eq-eqb, false≢true, true≢false}
+use Rattle.std.proofs.Common.{◌≡◌, ℕ, Bool, true, false, not, ◌&&◌, List, [], ◌∷◌, length, refl, sym, ap, subst, ◌∙◌, inl, inr, ◌⊎◌, Option, Some, None}
+use Rattle.std.proofs.lemmas.Bool.{false≢true}
 use Rattle.tr_types.specs.Paths.{names_of}
 use Rattle.tr_types.specs.declared.action.Action.{Action}
-use Rattle.tr_types.specs.declared.action.Action.TheVariants.{Load, Store, Cas, Flush, Fence, Pkru, Kernel}
+use Rattle.tr_types.specs.declared.action.Action.TheVariants.{Store, Kernel}
 use Rattle.tr_types.specs.declared.action.Answer.{Answer}
 use Rattle.tr_types.specs.declared.action.Answer.TheVariants.{Word as WordIs, Done, Fault, Kern}
 use Rattle.tr_types.specs.declared.command.Command.{Command}
@@ -12,21 +12,20 @@ use Rattle.tr_types.specs.declared.entry.Entry.{Entry}
 use Rattle.tr_types.specs.declared.entry.Entry.TheVariants as entry
 use Rattle.tr_types.specs.declared.entry.Mark.{Mark}
 use Rattle.tr_types.specs.declared.entry.Mark.TheVariants as mark
-use Rattle.tr_types.specs.declared.kernel_call.Kcall.{Kcall}
-use Rattle.tr_types.specs.declared.kernel_call.Kcall.TheVariants.{Find, Map, Unmap, Enlarge, New, Delete, Shrink, Split, Merge, Mode, Recover}
+use Rattle.tr_types.specs.declared.kernel_call.Kcall.TheVariants.{Find, Map, Unmap, Enlarge, New}
 use Rattle.tr_types.specs.declared.action.FaultKind.{FaultKind}
-use Rattle.bus_model.specs.Machine.{Bus, Fits, HasText}
-use Rattle.zo_model.specs.Tree.{Member, node_at}
+use Rattle.bus_model.specs.Machine.{Bus, HasText}
+use Rattle.zo_model.specs.Tree.{Member}
 use Rattle.zo_model.specs.Coffers.{Coffer, parent}
-use Rattle.zo_model.specs.Answers.{Answered, answer, consulted, is_success}
+use Rattle.zo_model.specs.Answers.{Answered, answer, consulted}
 use Rattle.zo_model.specs.Legal.{is_lost, IsWay}
 use Rattle.zo_model.specs.Seats.{is_commit}
 use Rattle.tr_model.specs.Worlds.{Standing, IsReady, IsLost, IsQuarantined, Row, coffers_of, put}
 use Rattle.tr_replay.specs.Seats.{Seat}
-use Rattle.tr_replay.specs.Worlds.{Base, Commit, Replay, World, never, replay_of, base_after, commit_of, is_stored, address_of, table_after, harmed, moves, answered, trees_if, trees_by, trees_of, stepped, coffers_by}
+use Rattle.tr_replay.specs.Worlds.{Base, Commit, World, never, replay_of, commit_of, is_stored, address_of, table_after, harmed, moves, trees_if, trees_by, stepped}
 use Rattle.tr_replay.specs.Legal.{MayCome, IsKnownCall, IsLegalBy, IsLegalAct, IsLegalCommit, MayCommit}
 use Rattle.tr_passing.specs.Units.{Last, Units, Lasts, Allowed, put_last, making, lasts_in, lasts_by, row_at, is_move, units_if, units_by, units_after}
-use Rattle.tr_passing.specs.Laws.{IsTidy, IsAlone, Owes, root_standing}
+use Rattle.tr_passing.specs.Laws.{IsTidy, IsAlone, root_standing}
 use Rattle.tr_passing.proofs.Growth.{Makes, Creates, creates, trees_grow, with_file}
 use Rattle.tr_passing.proofs.Orders.{IsNew, losing_alone}
 

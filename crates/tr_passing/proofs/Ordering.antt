@@ -1,7 +1,7 @@
 -- The units stand to the world as before, after an entry that does what it owes.
-use Rattle.std.proofs.Common.{◌≡◌, ◌≢◌, ℕ, ◌+◌, ◌<◌, ◌≤◌, ◌==◌, zero, suc, Bool, true, false, cond, not, ◌&&◌, if◌then◌else◌, List, [], ◌∷◌, ◌++◌, length, nat_eq, refl, sym, ap, subst, ◌∙◌, inl, inr, ◌⊎◌, arith, Contains, Option, Some, None}
+use Rattle.std.proofs.Common.{◌≡◌, ℕ, ◌+◌, ◌<◌, ◌==◌, Bool, true, false, cond, not, ◌&&◌, List, [], ◌∷◌, refl, sym, ap, subst, ◌∙◌, inl, inr, ◌⊎◌, arith, Contains, Option, Some, None}
 use Rattle.std.specs.Cmp.Lexicographic.{pointwise_decides, bytes_decides}
-use Rattle.std.proofs.lemmas.Bool.{cases_eq, eq-eqb, false≢true}
+use Rattle.std.proofs.lemmas.Bool.{cases_eq, eq-eqb}
 use Rattle.tr_types.specs.Paths.{names_of}
 use Rattle.tr_types.specs.declared.action.Action.{Action}
 use Rattle.tr_types.specs.declared.action.Action.TheVariants.{Store}
@@ -16,16 +16,16 @@ use Rattle.zo_model.specs.Tree.{same_names}
 use Rattle.zo_model.specs.Answers.{consulted}
 use Rattle.zo_model.specs.Coffers.{parent}
 use Rattle.zo_model.specs.Legal.{is_lost}
-use Rattle.zo_model.specs.Seats.{Lease, is_commit}
-use Rattle.tr_model.specs.Worlds.{Standing, IsReady, IsLost, IsQuarantined, Row, coffers_of, losing, lose, lost_standing, put, root_row, cred_of}
+use Rattle.zo_model.specs.Seats.{is_commit}
+use Rattle.tr_model.specs.Worlds.{Standing, IsReady, IsLost, IsQuarantined, Row, coffers_of, losing, lost_standing, root_row, cred_of}
 use Rattle.tr_replay.specs.Seats.{Seat, committed_after, seat_after}
-use Rattle.tr_replay.specs.Worlds.{Base, Commit, World, never, base_after, stepped, commit_of, committing, commits_after, table_after, harmed, moves, seat_of, seated, seats_after}
+use Rattle.tr_replay.specs.Worlds.{Base, Commit, World, never, base_after, stepped, commit_of, committing, commits_after, harmed, moves, seat_of, seated}
 use Rattle.tr_replay.specs.Legal.{MayCome, IsInCall}
 use Rattle.tr_replay.specs.Crashes.{IsUnanswered, IsLastUnder}
 use Rattle.tr_passing.specs.Units.{Last, Units, IsOpen, put_last, is_move, units_if, units_by, units_after, kept_last}
 use Rattle.tr_passing.specs.Laws.{IsTidy, IsAlone, IsReadyAlone, IsOrdered, HasUnit, Owes, OrderedMore, root_standing}
 use Rattle.tr_passing.proofs.Orders.{IsNew, put_same, put_other, put_cases, contains_first, commit_cases, commit_kept, new_position, new_same, tidy_more}
-use Rattle.tr_passing.proofs.Moves.{Acts, Rests, Tells, Moves, right, kind_of, allowed_never, moved_units, new_last}
+use Rattle.tr_passing.proofs.Moves.{Acts, Rests, Tells, Moves, right, kind_of, allowed_never, new_last}
 use Rattle.tr_passing.proofs.Keeping.{kept_from, judged_more, open_before}
 
 some_last : (a b : Last) → Some a ≡ Some b → a ≡ b

@@ -22,7 +22,7 @@ use Rattle.tr_replay.specs.Seats.{Seat}
 use Rattle.tr_replay.specs.Worlds.{Base, Commit, World, replay_of, dropped, floor, base_after, stepped, world_of, world_after, coffers_by, coffers_at}
 use Rattle.tr_replay.specs.Legal.{MayCome, IsInCall, IsLegalBy, MayCommit}
 use Rattle.tr_replay.specs.Crashes.{IsLeft, IsReadyAt, IsUnanswered, IsLastUnder}
-use Rattle.tr_passing.specs.Units.{Last, Units, IsOpen, units_after, Allowed, node_left, count_left, members_in}
+use Rattle.tr_passing.specs.Units.{Last, Units, no_units, IsOpen, units_after, Allowed, node_left, count_left, members_in}
 
 -- the root coffer is the only one, however it stands
 abbrev pub root_standing : Standing → Row
@@ -127,6 +127,10 @@ pub record IsLive (opening : List ℕ) (trace : List Entry) (units : Units) : Ty
 abbrev pub LiveMore : Type 0
 LiveMore = (opening : List ℕ) (trace : List Entry) (units : Units) (e : Entry) → IsLive opening trace units → Owes (world_after opening trace) units e
     → IsLive opening (trace ++ e ∷ []) (units_after (world_after opening trace) e units)
+
+-- it holds over any image, before any entry
+abbrev pub StartLaw : Type 0
+StartLaw = (opening : List ℕ) → IsLive opening [] no_units
 
 -- what a crash drops is allowed
 abbrev pub DroppedAllowed : Type 0

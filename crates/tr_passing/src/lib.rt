@@ -2,7 +2,7 @@
 //! definitions alone.
 #![tactic(auto)]
 
-ghost use Rattle.tr_passing.specs.Laws.{AllowedBefore, CrashLaw, DiffersMore, DroppedAllowed, FloorRises, LiveMore, OrderedMore, TidyMore};
+ghost use Rattle.tr_passing.specs.Laws.{AllowedBefore, CrashLaw, DiffersMore, DroppedAllowed, FloorRises, LiveMore, OrderedMore, ReplyLaw, StartLaw, SureCommit, SurePoint, TidyMore};
 
 /// What a crash may leave of a word only grows less, until it crashes.
 pub fn floor_law()
@@ -42,4 +42,24 @@ pub fn differs_law()
 /// One more entry that does what it owes keeps all of it.
 pub fn live_law()
     ensures { LiveMore }
+{}
+
+/// All of it holds before any entry.
+pub fn start_law()
+    ensures { StartLaw }
+{}
+
+/// Under a still root directory a command is answered alike, whatever a crash drops.
+pub fn reply_law()
+    ensures { ReplyLaw }
+{}
+
+/// A change there is right whatever a crash drops.
+pub fn sure_commit()
+    ensures { SureCommit }
+{}
+
+/// A point there settles one reply, whatever a crash drops.
+pub fn sure_point()
+    ensures { SurePoint }
 {}

@@ -1,4 +1,3 @@
-use Rattle.tr_passing.proofs.Moves.{kind_of}
 use Rattle.tr_passing.proofs.Orders.{tidy_more}
 use Rattle.tr_passing.proofs.tidy_law.Goals as goal
 
