@@ -20,3 +20,5 @@ pub mod Living
 pub mod Replies
 -- before any entry
 pub mod Starting
+-- what may be dropped behind a crash
+pub mod Crashing

@@ -19,7 +19,8 @@ use Rattle.tr_types.specs.declared.entry.Mark.TheVariants as mark
 use Rattle.tr_types.specs.declared.permission.Cred.{Cred}
 use Rattle.tr_model.specs.Worlds.{Row, Standing, root_row}
 use Rattle.tr_replay.specs.Seats.{Seat}
-use Rattle.tr_replay.specs.Worlds.{Base, Commit, World, replay_of, dropped, floor, base_after, stepped, world_of, world_after, coffers_by, coffers_at}
+use Rattle.tr_types.specs.declared.entry.Pick.{Pick}
+use Rattle.tr_replay.specs.Worlds.{Base, Commit, World, replay_of, dropped, floor, base_after, stepped, world_of, world_after, coffers_by, coffers_at, or_dropped, places_of}
 use Rattle.tr_replay.specs.Legal.{MayCome, IsInCall, IsLegalBy, MayCommit}
 use Rattle.tr_replay.specs.Crashes.{IsLeft, IsReadyAt, IsUnanswered, IsLastUnder}
 use Rattle.tr_passing.specs.Units.{Last, Units, no_units, IsOpen, units_after, Allowed, node_left, count_left, members_in}
@@ -93,6 +94,16 @@ pub record Owes (w : World) (units : Units) (e : Entry) : Type 0 where
 
 abbrev pub AllowedBefore : Type 0
 AllowedBefore = (drops : ℕ → Bool) (w : World) (units : Units) (e : Entry) → IsTidy w.base → IsOrdered w units → MayCome w e → Allowed drops (stepped w e) (units_after w e units) → Allowed drops w units
+
+-- Behind a crash no position that moved the trees may be dropped, so that what was then allowed before it is, and so it is together with
+-- what the crash itself drops.
+pub record CrashAllowed (drops : ℕ → Bool) (w : World) (units : Units) (choice : Pick) : Type 0 where
+  pub alone : Allowed drops w units
+  pub with_crash : Allowed (or_dropped (places_of choice w.base) w.base.commits drops) w units
+
+abbrev pub CrashBefore : Type 0
+CrashBefore = (drops : ℕ → Bool) (w : World) (units : Units) (choice : Pick) → IsTidy w.base → IsOrdered w units
+    → Allowed drops (stepped w (entry.Crash choice)) (units_after w (entry.Crash choice) units) → CrashAllowed drops w units choice
 
 abbrev pub OrderedMore : Type 0
 OrderedMore = (w : World) (units : Units) (e : Entry) → IsTidy w.base → IsOrdered w units → Owes w units e → IsOrdered (stepped w e) (units_after w e units)

@@ -2,7 +2,7 @@
 //! definitions alone.
 #![tactic(auto)]
 
-ghost use Rattle.tr_passing.specs.Laws.{AllowedBefore, CrashLaw, DiffersMore, DroppedAllowed, FloorRises, LiveMore, OrderedMore, ReplyLaw, StartLaw, SureCommit, SurePoint, TidyMore};
+ghost use Rattle.tr_passing.specs.Laws.{AllowedBefore, CrashBefore, CrashLaw, DiffersMore, DroppedAllowed, FloorRises, LiveMore, OrderedMore, ReplyLaw, StartLaw, SureCommit, SurePoint, TidyMore};
 
 /// What a crash may leave of a word only grows less, until it crashes.
 pub fn floor_law()
@@ -17,6 +17,11 @@ pub fn tidy_law()
 /// What a crash may drop after an entry, it might have dropped before.
 pub fn allowed_law()
     ensures { AllowedBefore }
+{}
+
+/// What may be dropped behind a crash, might be before it, with what the crash drops or without.
+pub fn crash_law()
+    ensures { CrashBefore }
 {}
 
 /// The units stand to the world as before, after an entry that does what it owes.
