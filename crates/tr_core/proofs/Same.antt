@@ -119,7 +119,7 @@ module _ (w v : World) where
     stage_seen command stage.Begin told seat (bare, rest, fresh) = (bare_seen thread bare, rest_seen rest, fresh_seen seat fresh)
     stage_seen command stage.Finding told seat (bare, rest, fresh, found, is) = (bare_seen thread bare, rest_seen rest, fresh_seen seat fresh, found, is)
     stage_seen command stage.Mapping told seat (key, mapped, rest, fresh, found, is) = (key, mapped_seen thread command key _ mapped, rest_seen rest, fresh_seen seat fresh, found, is)
-    stage_seen command (stage.Working op) told seat (key, mapped, found, of, knows) = (key, mapped_seen thread command key _ mapped, found, of, subst (λ (x : Verdict). OpKnows op told (scene_with seat x)) (sym verdict) knows)
+    stage_seen command (stage.Working op) told seat (key, mapped, found, knows) = (key, mapped_seen thread command key _ mapped, found, subst (λ (x : Verdict). OpKnows op command told (scene_with seat x)) (sym verdict) knows)
     stage_seen command (stage.Closing reply) told seat (key, mapped, tell) = (key, mapped_seen thread command key _ mapped, tell_seen seat reply tell)
     stage_seen command (stage.Ending reply) told seat (bare, tell) = (bare_seen thread bare, tell_seen seat reply tell)
     stage_seen command stage.Over told seat none = absurd none

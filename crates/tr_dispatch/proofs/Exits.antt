@@ -43,7 +43,7 @@ use Rattle.zo_ops.specs.declared.op.OpRun.{OpRun}
 use Rattle.zo_ops.specs.declared.op.OpStep.TheVariants as op_step
 use Rattle.zo_ops.specs.declared.op.Stage.{Stage as OpStage}
 use Rattle.zo_ops.specs.declared.op.Stage.TheVariants as op_stage
-use Rattle.zo_ops.specs.Knows.{Stands, BeginKnows, IsSameCall, OpKnows, StepsFrom, DrawnKnows, MayPutAll, stored}
+use Rattle.zo_ops.specs.Knows.{Stands, BeginKnows, OpKnows, StepsFrom, DrawnKnows, MayPutAll, stored}
 use Rattle.zo_ops.specs.Knows.{StageKnows as OpStageKnows}
 use Rattle.zo_plan.specs.StoreRuns.{Due}
 use Rattle.zo_plan.specs.declared.place.Place.{Place}
@@ -396,9 +396,8 @@ map_built command path right valid is right_is = ((path_text path (consults_path
 -- The window: the coffer's key alone.
 
 -- a call that begins in the mapped coffer
-pub record Begins (command : Command) (m : Mapped) (op : OpRun) : Type 0 where
-  pub command_is : op.command ≡ command
-  pub knows : (first : Answer) (s : Scene) → BeginKnows m command s → OpKnows op first s
+abbrev pub Begins : Command → Mapped → OpRun → Type 0
+Begins command m op = (first : Answer) (s : Scene) → BeginKnows m command s → OpKnows op command first s
 
 mapped_is : (m : Mapped) (words : List Word) (key : ℕ) → Kern (kern.Mapped m) ≡ Kern (kern.Mapped (root_mapped words key)) → m ≡ root_mapped words key
 mapped_is m words key both = cc
@@ -463,8 +462,7 @@ module _ (thread : ℕ) (command : Command) (answer : Answer) (m : Mapped) (op :
         register = register_set open_bus thread pkru k.sits.register ∙ pkru_opens;
       },
       record { find = k.knows.4.find; found = k.knows.4.found; named = k.knows.4.named; coffer = k.knows.4.coffer },
-      begins.command_is,
-      begins.knows Done (scene_of opened_world thread opened_seat) begin_knows,
+      begins Done (scene_of opened_world thread opened_seat) begin_knows,
     );
   }
 
@@ -568,12 +566,12 @@ done_by Check action given may done = tt
 done_by Point action given may done = tt
 done_by Commit action given may done = done refl
 
-module _ (thread : ℕ) (command : Command) (answer : Answer) (old new : OpRun) (mark : Mark) (action : Action) (same : IsSameCall old new) (steps : StepsFrom old answer new (op_step.Act action mark)) (w : World) (k : KnowsAt thread command (stage.Working old) answer w) where
+module _ (thread : ℕ) (command : Command) (answer : Answer) (old new : OpRun) (mark : Mark) (action : Action) (steps : StepsFrom old command answer new (op_step.Act action mark)) (w : World) (k : KnowsAt thread command (stage.Working old) answer w) where
   abbrev here : Scene
   here = scene_of w thread k.seat
 
-  gives : ActGives (OpStageKnows new.mapped new.command new.stage) mark action here
-  gives = steps here k.knows.4
+  gives : ActGives (OpStageKnows new.mapped command new.stage) mark action here
+  gives = steps here k.knows.3
 
   module _ (now : ℕ) (given : Answer) (answers : Answers w.base.machine.bus thread now action given) where
     abbrev acted_world : World
@@ -588,7 +586,7 @@ module _ (thread : ℕ) (command : Command) (answer : Answer) (old new : OpRun) 
     bridge : Bridged w thread k.seat now mark action given
     bridge = bridged w thread command k.seat k.knows.0 k.rooted k.sits k.knows.1 now mark action gives.reachable given answers
 
-    goes : OpGoes (OpStageKnows new.mapped new.command new.stage) mark action given here there
+    goes : OpGoes (OpStageKnows new.mapped command new.stage) mark action given here there
     goes = gives.goes given there bridge.answers (leaves w thread command k.seat k.knows.0 k.rooted k.sits k.knows.1 now mark action given bridge)
 
     act_rooted : IsRooted acted_world
@@ -621,7 +619,6 @@ module _ (thread : ℕ) (command : Command) (answer : Answer) (old new : OpRun) 
           register = ap (λ (ps : List ℕ). slice_index_or ps thread closed_pkru) bridge.registers ∙ k.knows.1.register;
         },
         act_found,
-        same.command ∙ k.knows.3,
         goes.knows,
       );
     }
@@ -630,20 +627,20 @@ module _ (thread : ℕ) (command : Command) (answer : Answer) (old new : OpRun) 
     act_goes = goes_on thread now command (stage.Working new) mark action w given
         (reached_known here action gives.reachable, subst (IsLegalCommit w action (is_commit mark given)) (sym k.sits.seat_is) (legal_by w k.seat action (is_commit mark given) goes.legal))
         (keeps_at w thread k.seat mark action given k.sits.seat_is (λ _. (
-          reached_keeps here action gives.reachable (page_at (kernel_pages (pages_of w.base.machine.bus.words))) (word_past w thread command k.seat k.knows.0 k.rooted k.sits k.knows.1) (asks_uncommitted old.mapped old.command old.stage answer here k.knows.4),
+          reached_keeps here action gives.reachable (page_at (kernel_pages (pages_of w.base.machine.bus.words))) (word_past w thread command k.seat k.knows.0 k.rooted k.sits k.knows.1) (asks_uncommitted old.mapped command old.stage answer here k.knows.3),
           done_by mark action given gives.marked goes.done,
         )))
         (same_holders w thread now mark action given bridge.holders)
         act_knows
 
-pub act_gives : (thread : ℕ) (command : Command) (answer : Answer) (old new : OpRun) (mark : Mark) (action : Action) → IsSameCall old new → StepsFrom old answer new (op_step.Act action mark)
+pub act_gives : (thread : ℕ) (command : Command) (answer : Answer) (old new : OpRun) (mark : Mark) (action : Action) → StepsFrom old command answer new (op_step.Act action mark)
     → LeadsTo thread command (stage.Working old) answer (stage.Working new) (step.Act action mark)
-act_gives thread command answer old new mark action same steps w k =
-    let reached = (gives thread command answer old new mark action same steps w k).reachable in
+act_gives thread command answer old new mark action steps w k =
+    let reached = (gives thread command answer old new mark action steps w k).reachable in
     record {
       shut = λ now given. reached_shut (scene_of w thread k.seat) action reached w thread now mark given;
       found = λ now given. reached_found (scene_of w thread k.seat) action reached w thread now mark given;
-      goes = act_goes thread command answer old new mark action same steps w k;
+      goes = act_goes thread command answer old new mark action steps w k;
     }
 
 -- The window is closed.
@@ -666,7 +663,7 @@ stands_at_rest w thread seat rooted stands = record {
     same : stands.tree ≡ w.trees 0
     same = ap first_tree (sym stands.alone.coffers_are ∙ coffers_are w rooted.table)
 
-module _ (thread : ℕ) (command : Command) (answer : Answer) (old new : OpRun) (reply : Reply) (pkru : ℕ) (pkru_is : pkru ≡ closed_pkru) (steps : StepsFrom old answer new (op_step.Over reply)) (w : World) (k : KnowsAt thread command (stage.Working old) answer w) (now : ℕ) where
+module _ (thread : ℕ) (command : Command) (answer : Answer) (old new : OpRun) (reply : Reply) (pkru : ℕ) (pkru_is : pkru ≡ closed_pkru) (steps : StepsFrom old command answer new (op_step.Over reply)) (w : World) (k : KnowsAt thread command (stage.Working old) answer w) (now : ℕ) where
   abbrev closes : Action
   closes = Pkru pkru
 
@@ -677,7 +674,7 @@ module _ (thread : ℕ) (command : Command) (answer : Answer) (old new : OpRun) 
   closed_seat = seat_after (pool_of w.base.machine.bus.words) Close closes Done k.seat
 
   replies : OverGives reply (scene_of w thread k.seat) × Stands (scene_of w thread k.seat)
-  replies = steps (scene_of w thread k.seat) k.knows.4
+  replies = steps (scene_of w thread k.seat) k.knows.3
 
   close_knows : KnowsAt thread command (stage.Closing reply) Done closed_world
   close_knows = record {
@@ -706,7 +703,7 @@ module _ (thread : ℕ) (command : Command) (answer : Answer) (old new : OpRun) 
       (same_holders w thread now Close closes Done refl)
       close_knows
 
-pub close_gives : (thread : ℕ) (command : Command) (answer : Answer) (old new : OpRun) (reply : Reply) (pkru : ℕ) → pkru ≡ closed_pkru → StepsFrom old answer new (op_step.Over reply)
+pub close_gives : (thread : ℕ) (command : Command) (answer : Answer) (old new : OpRun) (reply : Reply) (pkru : ℕ) → pkru ≡ closed_pkru → StepsFrom old command answer new (op_step.Over reply)
     → LeadsTo thread command (stage.Working old) answer (stage.Closing reply) (step.Act (Pkru pkru) Close)
 close_gives thread command answer old new reply pkru pkru_is steps w k = record {
   shut = λ now given. tt;

@@ -151,7 +151,7 @@ module _ (thread : ℕ) (command : Command) (answer : Answer) (w after : World) 
     k.4,
     subst (λ (words : List Word). answer ≡ Kern (Mapped (root_mapped words k.0))) (sym same.words) k.5,
   )
-  still_known (stage.Working op) seat k = (k.0, still_mapped k.0 (open_pkru command k.0) k.1, k.2, k.3, subst (OpKnows op answer) (scene_same seat) k.4)
+  still_known (stage.Working op) seat k = (k.0, still_mapped k.0 (open_pkru command k.0) k.1, k.2, subst (OpKnows op command answer) (scene_same seat) k.3)
   still_known (stage.Closing reply) seat k = (k.0, still_mapped k.0 closed_pkru k.1, still_tells seat reply k.2)
   still_known (stage.Ending reply) seat k = (still_bare k.0, still_tells seat reply k.1)
   still_known stage.Over seat k = absurd k

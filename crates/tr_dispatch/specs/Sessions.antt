@@ -87,7 +87,7 @@ StageKnows thread command stage.Finding answer w seat =
 StageKnows thread command stage.Mapping answer w seat =
     (key : ℕ) × HasMapped w.base.machine.bus thread command key closed_pkru × IsAtRest w × IsFresh w thread seat × HasFound seat × (answer ≡ Kern (Mapped (root_mapped w.base.machine.bus.words key)))
 StageKnows thread command (stage.Working op) answer w seat =
-    (key : ℕ) × HasMapped w.base.machine.bus thread command key (open_pkru command key) × HasFound seat × (op.command ≡ command) × OpKnows op answer (scene_of w thread seat)
+    (key : ℕ) × HasMapped w.base.machine.bus thread command key (open_pkru command key) × HasFound seat × OpKnows op command answer (scene_of w thread seat)
 StageKnows thread command (stage.Closing reply) answer w seat =
     (key : ℕ) × HasMapped w.base.machine.bus thread command key closed_pkru × MayTell w thread seat reply
 StageKnows thread command (stage.Ending reply) answer w seat = IsBare w.base.machine.bus thread × MayTell w thread seat reply

@@ -149,8 +149,8 @@ impl Session {
             return Ok(damaged());
         }
         let pkru = Pkru::only(mapped.key, writes(&self.command));
-        let command = self.command.copy(alloc)?;
-        self.stage = Stage::Working(OpRun::begin(alloc, self.thread, self.cred, command, mapped)?);
+        let op = OpRun::begin(alloc, self.thread, self.cred, &self.command, mapped)?;
+        self.stage = Stage::Working(op);
         Ok(SessionStep::Act(Action::Pkru(pkru.0), Mark::Open))
     }
 
@@ -165,7 +165,7 @@ impl Session {
         let Stage::Working(op) = &mut self.stage else {
             unreachable!()
         };
-        match op.next(alloc, answer, now)? {
+        match op.next(alloc, &self.command, answer, now)? {
             OpStep::Act(action, mark) => Ok(SessionStep::Act(action, mark)),
             OpStep::Over(reply) => {
                 self.stage = Stage::Closing(reply);

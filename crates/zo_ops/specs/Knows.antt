@@ -218,9 +218,9 @@ StageKnows mapped command stage.Over given s = ⊥
 abbrev pub BeginsAt : Mapped → Command → Stage → Type 0
 BeginsAt mapped command stage = (first : Answer) (s : Scene) → BeginKnows mapped command s → StageKnows mapped command stage first s
 
--- what a call knows with the answer that it gets next
-abbrev pub OpKnows : OpRun → Answer → Scene → Type 0
-OpKnows op given s = StageKnows op.mapped op.command op.stage given s
+-- what a call of this command knows with the answer that it gets next
+abbrev pub OpKnows : OpRun → Command → Answer → Scene → Type 0
+OpKnows op command given s = StageKnows op.mapped command op.stage given s
 
 -- What a call gives with an action, after which it is at this stage, and with its reply.
 abbrev pub Gives : Mapped → Command → Stage → OpStep → Scene → Type 0
@@ -228,12 +228,12 @@ Gives mapped command later (step.Act action mark) s = ActGives (StageKnows mappe
 Gives mapped command later (step.Over reply) s = OverGives reply s × Stands s
 
 -- what it gives where it knew what its stage asked for with the answer
-abbrev pub StepsFrom : OpRun → Answer → OpRun → OpStep → Type 0
-StepsFrom old given new step = (s : Scene) → OpKnows old given s → Gives new.mapped new.command new.stage step s
+abbrev pub StepsFrom : OpRun → Command → Answer → OpRun → OpStep → Type 0
+StepsFrom old command given new step = (s : Scene) → OpKnows old command given s → Gives new.mapped command new.stage step s
 
 -- the same within a step, where this was known of the scene
-abbrev pub After : OpRun → (Mapped → Command → Scene → Type 0) → OpRun → OpStep → Type 0
-After old Known new step = (s : Scene) → Known old.mapped old.command s → Gives old.mapped old.command new.stage step s
+abbrev pub After : OpRun → Command → (Mapped → Command → Scene → Type 0) → OpRun → OpStep → Type 0
+After old command Known new step = (s : Scene) → Known old.mapped command s → Gives old.mapped command new.stage step s
 
 -- What is known where a name was found, with its target, and where none was, with the place for it; and where the pool has
 -- shown no page.
@@ -251,8 +251,3 @@ pub record MissingKnows (place : Place) (mapped : Mapped) (command : Command) (s
 
 abbrev pub PoolKnows : Place → Mapped → Command → Scene → Type 0
 PoolKnows place mapped command s = Lacks mapped command place s × IsUnasked s × (s.seat.drained ≡ true)
-
--- the coffer and the command stay
-pub record IsSameCall (old new : OpRun) : Type 0 where
-  pub mapped : new.mapped ≡ old.mapped
-  pub command : new.command ≡ old.command

@@ -2,13 +2,14 @@
 ghost use Rattle.std.specs.Prelude.{◌≡◌, ◌↔◌, IsTrue, IfOk};
 ghost use Rattle.zo_layout.specs.Layout.{page_at, pool_head};
 ghost use Rattle.tr_types.specs.declared.action.Answer.{Answer};
+ghost use Rattle.tr_types.specs.declared.command.Command.{Command};
 ghost use Rattle.tr_types.specs.declared.kernel_call.Mapped.{Mapped};
 ghost use Rattle.zo_model.specs.Steps.{Scene};
 ghost use Rattle.zo_hash_dir.specs.Addresses.{IsTarget};
 ghost use Rattle.zo_hash_dir.specs.Looking.{Knows as LookKnows};
 ghost use Rattle.zo_hash_dir.specs.Scene.{Scene as Seen, IsShown, CanMake};
 ghost use Rattle.zo_ops.specs.Acts.{IsStep};
-ghost use Rattle.zo_ops.specs.Knows.{BeginKnows, FoundKnows, MissingKnows, PoolKnows, Drew, StageKnows, OpKnows, StepsFrom, After, IsLooking, IsSameCall, BeginsAt, name_of as name_of_command, purpose_of};
+ghost use Rattle.zo_ops.specs.Knows.{BeginKnows, FoundKnows, MissingKnows, PoolKnows, Drew, StageKnows, OpKnows, StepsFrom, After, IsLooking, BeginsAt, name_of as name_of_command, purpose_of};
 ghost use Rattle.zo_ops.specs.declared.op.Stage.TheVariants as stage;
 
 use sqlite_items::Boxed;
@@ -22,11 +23,10 @@ use zo_plan::{Addr, Link, Operand, Place, Put, StoreRun, StoreStep};
 /// The root coffer's mode: octal 666. Its uid and gid are 0.
 const ROOT_MODE: u16 = 0o666;
 
-/// A running call of a command in a coffer that its thread has mapped.
+/// A running call in a coffer that its thread has mapped. Its command stays with the caller, who lends it at each step.
 #[derive(Debug, Drop)]
 pub struct OpRun {
     mapped: Mapped,
-    command: Command,
     stage: Stage,
 }
 
@@ -65,40 +65,41 @@ impl OpRun {
         alloc: Global,
         _thread: u16,
         _cred: Cred,
-        command: Command,
+        command: &Command,
         mapped: Mapped,
     ) -> Result<OpRun, AllocError>
         ensures mapped { IfOk result (λ op. op.mapped ≡ mapped) }
-        ensures command { IfOk result (λ op. op.command ≡ command) }
-        ensures knows { (first : Answer) (s : Scene) → BeginKnows mapped command s → IfOk result (λ op. OpKnows op first s) }
+        ensures knows { (first : Answer) (s : Scene) → BeginKnows mapped command.now s → IfOk result (λ op. OpKnows op command.now first s) }
     {
         let stage = match Addr::of_page(mapped.root) {
-            Some(dir) => first_stage(alloc, dir, &command, mapped.pages)?,
+            Some(dir) => first_stage(alloc, dir, command, mapped.pages)?,
             None => Stage::Over,
         };
-        Ok(OpRun {
-            mapped,
-            command,
-            stage,
-        })
+        Ok(OpRun { mapped, stage })
     }
 
     /// Goes on with the answer to the last action, at a tick. The first call has no use for its answer.
-    pub fn next(&mut self, alloc: Global, answer: &Answer, now: u32) -> Result<OpStep, AllocError>
-        ensures call { IsSameCall self.old self.new }
+    pub fn next(
+        &mut self,
+        alloc: Global,
+        command: &Command,
+        answer: &Answer,
+        now: u32,
+    ) -> Result<OpStep, AllocError>
+        ensures mapped { self.new.mapped ≡ self.old.mapped }
         ensures acts { IfOk result (IsStep self.old.mapped) }
-        ensures gives { IfOk result (StepsFrom self.old answer.now self.new) }
+        ensures gives { IfOk result (StepsFrom self.old command.now answer.now self.new) }
     {
         // A look-up is the bulk of a call, and goes on where it stands.
         if let Stage::Looking(_) = self.stage {
-            return Ok(self.look(answer));
+            return Ok(self.look(command, answer));
         }
         match mem::replace(&mut self.stage, Stage::Over) {
             Stage::Counting(count) => Ok(self.count(count, answer)),
             Stage::Kind { file } => Ok(self.kind(file, answer)),
             Stage::Map { file } => Ok(self.map(file, answer)),
             Stage::Pool(place) => self.pool(alloc, place, answer),
-            Stage::Drawing(place) => self.draw(alloc, place, answer, now),
+            Stage::Drawing(place) => self.draw(alloc, command, place, answer, now),
             Stage::Storing(run) => Ok(self.store(run, answer, now)),
             Stage::Looking(_) => unreachable!(),
             Stage::Over => Ok(damaged(page_at(self.mapped.control))),
@@ -106,7 +107,7 @@ impl OpRun {
     }
 
     fn load(&mut self, addr: u64, stage: Stage) -> OpStep
-        ensures call { IsSameCall self.old self.new }
+        ensures mapped { self.new.mapped ≡ self.old.mapped }
         ensures acts { IsStep self.old.mapped result }
         ensures stage { self.new.stage ≡ stage }
         ensures step { result ≡ OpStep.Act (Action.Load addr) Mark.Plain }
@@ -116,9 +117,9 @@ impl OpRun {
     }
 
     fn count(&mut self, mut count: ListRun, answer: &Answer) -> OpStep
-        ensures call { IsSameCall self.old self.new }
+        ensures mapped { self.new.mapped ≡ self.old.mapped }
         ensures acts { IsStep self.old.mapped result }
-        ensures gives { After self.old (λ m c. StageKnows m c (stage.Counting count) answer.now) self.new result }
+        ensures gives { (command : Command) → After self.old command (λ m c. StageKnows m c (stage.Counting count) answer.now) self.new result }
     {
         match count.next(answer) {
             ListStep::Load(addr) => self.load(addr, Stage::Counting(count)),
@@ -130,31 +131,31 @@ impl OpRun {
     }
 
     // A word of the directory is known, in which the name is looked for.
-    fn look(&mut self, answer: &Answer) -> OpStep
+    fn look(&mut self, command: &Command, answer: &Answer) -> OpStep
         requires looking { IsLooking self.old.stage }
-        ensures call { IsSameCall self.old self.new }
+        ensures mapped { self.new.mapped ≡ self.old.mapped }
         ensures acts { IsStep self.old.mapped result }
-        ensures gives { After self.old (λ m c. StageKnows m c self.old.stage answer.now) self.new result }
+        ensures gives { After self.old command.now (λ m c. StageKnows m c self.old.stage answer.now) self.new result }
     {
         let Stage::Looking(look) = &mut self.stage else {
             unreachable!()
         };
         match look.next(answer) {
             LookStep::Load(addr) => OpStep::Act(Action::Load(addr), Mark::Plain),
-            LookStep::Found { target, .. } => self.found(target),
-            LookStep::Missing { place } => self.missing(place),
+            LookStep::Found { target, .. } => self.found(command, target),
+            LookStep::Missing { place } => self.missing(command, place),
             LookStep::Damaged(addr) => damaged(addr),
         }
     }
 
     // The name stands, with this target.
-    fn found(&mut self, target: u64) -> OpStep
+    fn found(&mut self, command: &Command, target: u64) -> OpStep
         requires { IsTarget target }
-        ensures call { IsSameCall self.old self.new }
+        ensures mapped { self.new.mapped ≡ self.old.mapped }
         ensures acts { IsStep self.old.mapped result }
-        ensures gives { After self.old (FoundKnows target) self.new result }
+        ensures gives { After self.old command.now (FoundKnows target) self.new result }
     {
-        match self.command {
+        match command {
             Command::Create { .. } => OpStep::Over(Reply::Exists),
             Command::Stat { .. } => match Link::of(target) {
                 Link::To(file) => self.load(page_kind(file.at), Stage::Kind { file }),
@@ -165,12 +166,12 @@ impl OpRun {
     }
 
     // The name doesn't stand.
-    fn missing(&mut self, place: Place) -> OpStep
-        ensures call { IsSameCall self.old self.new }
+    fn missing(&mut self, command: &Command, place: Place) -> OpStep
+        ensures mapped { self.new.mapped ≡ self.old.mapped }
         ensures acts { IsStep self.old.mapped result }
-        ensures gives { After self.old (MissingKnows place) self.new result }
+        ensures gives { After self.old command.now (MissingKnows place) self.new result }
     {
-        match self.command {
+        match command {
             Command::Create { .. } => self.load(self.pool_head(), Stage::Pool(place)),
             Command::Stat { .. } => OpStep::Over(Reply::NotFound),
         }
@@ -185,9 +186,9 @@ impl OpRun {
 
     // What stands in the file's page is known.
     fn kind(&mut self, file: Addr, answer: &Answer) -> OpStep
-        ensures call { IsSameCall self.old self.new }
+        ensures mapped { self.new.mapped ≡ self.old.mapped }
         ensures acts { IsStep self.old.mapped result }
-        ensures gives { After self.old (λ m c. StageKnows m c (stage.Kind file) answer.now) self.new result }
+        ensures gives { (command : Command) → After self.old command (λ m c. StageKnows m c (stage.Kind file) answer.now) self.new result }
     {
         if is_word(answer, KIND_FILE) {
             self.load(file_map(file.at), Stage::Map { file })
@@ -199,7 +200,7 @@ impl OpRun {
     // The word that has the address of the file's map is known. No file has a map, as none has been written.
     fn map(&self, file: Addr, answer: &Answer) -> OpStep
         ensures acts { IsStep self.now.mapped result }
-        ensures gives { After self.now (λ m c. StageKnows m c (stage.Map file) answer.now) self.now result }
+        ensures gives { (command : Command) → After self.now command (λ m c. StageKnows m c (stage.Map file) answer.now) self.now result }
     {
         if is_word(answer, 0) {
             OpStep::Over(Reply::Info(Kind::File, 0, 0, 0, ROOT_MODE))
@@ -210,9 +211,9 @@ impl OpRun {
 
     // Whether the pool has a page is known. It has none: no page has ever been given back to a pool.
     fn pool(&mut self, alloc: Global, place: Place, answer: &Answer) -> Result<OpStep, AllocError>
-        ensures call { IsSameCall self.old self.new }
+        ensures mapped { self.new.mapped ≡ self.old.mapped }
         ensures acts { IfOk result (IsStep self.old.mapped) }
-        ensures gives { IfOk result (After self.old (λ m c. StageKnows m c (stage.Pool place) answer.now) self.new) }
+        ensures gives { (command : Command) → IfOk result (After self.old command (λ m c. StageKnows m c (stage.Pool place) answer.now) self.new) }
     {
         if is_word(answer, 0) {
             self.ask_pages(alloc, place)
@@ -223,9 +224,9 @@ impl OpRun {
 
     // Asks the kernel for the pages of a new file: its own, and an entry page where its name needs one.
     fn ask_pages(&mut self, alloc: Global, place: Place) -> Result<OpStep, AllocError>
-        ensures call { IsSameCall self.old self.new }
+        ensures mapped { self.new.mapped ≡ self.old.mapped }
         ensures acts { IfOk result (IsStep self.old.mapped) }
-        ensures gives { IfOk result (After self.old (PoolKnows place) self.new) }
+        ensures gives { (command : Command) → IfOk result (After self.old command (PoolKnows place) self.new) }
     {
         let enlarge = Kcall::Enlarge {
             id: self.mapped.id,
@@ -240,19 +241,20 @@ impl OpRun {
     fn draw(
         &mut self,
         alloc: Global,
+        command: &Command,
         place: Place,
         answer: &Answer,
         now: u32,
     ) -> Result<OpStep, AllocError>
-        ensures call { IsSameCall self.old self.new }
+        ensures mapped { self.new.mapped ≡ self.old.mapped }
         ensures acts { IfOk result (IsStep self.old.mapped) }
-        ensures gives { IfOk result (After self.old (λ m c. StageKnows m c (stage.Drawing place) answer.now) self.new) }
+        ensures gives { IfOk result (After self.old command.now (λ m c. StageKnows m c (stage.Drawing place) answer.now) self.new) }
     {
         let Answer::Kern(answer) = answer else {
             return Ok(damaged(self.pool_head()));
         };
         match answer.get() {
-            KernAnswer::Pages(pages) => self.fill(alloc, place, pages.as_slice(), now),
+            KernAnswer::Pages(pages) => self.fill(alloc, command, place, pages.as_slice(), now),
             KernAnswer::NoPages { asked, free } => Ok(OpStep::Over(Reply::NoSpace {
                 need: *asked,
                 free: *free,
@@ -266,16 +268,17 @@ impl OpRun {
     fn fill(
         &mut self,
         alloc: Global,
+        command: &Command,
         place: Place,
         pages: &[u32],
         now: u32,
     ) -> Result<OpStep, AllocError>
-        ensures call { IsSameCall self.old self.new }
+        ensures mapped { self.new.mapped ≡ self.old.mapped }
         ensures acts { IfOk result (IsStep self.old.mapped) }
-        ensures gives { IfOk result (After self.old (λ m c. Drew m c place pages.now) self.new) }
+        ensures gives { IfOk result (After self.old command.now (λ m c. Drew m c place pages.now) self.new) }
     {
         match Addr::of_page(self.mapped.root) {
-            Some(dir) => self.fill_in(alloc, dir, place, pages, now),
+            Some(dir) => self.fill_in(alloc, command, dir, place, pages, now),
             None => Ok(damaged(page_at(self.mapped.control))),
         }
     }
@@ -284,14 +287,15 @@ impl OpRun {
     fn fill_in(
         &mut self,
         alloc: Global,
+        command: &Command,
         dir: Addr,
         place: Place,
         pages: &[u32],
         now: u32,
     ) -> Result<OpStep, AllocError>
-        ensures call { IsSameCall self.old self.new }
+        ensures mapped { self.new.mapped ≡ self.old.mapped }
         ensures acts { IfOk result (IsStep self.old.mapped) }
-        ensures gives { dir.at ≡ page_at self.old.mapped.root → IfOk result (After self.old (λ m c. Drew m c place pages.now) self.new) }
+        ensures gives { dir.at ≡ page_at self.old.mapped.root → IfOk result (After self.old command.now (λ m c. Drew m c place pages.now) self.new) }
     {
         let file = Operand::Drawn {
             page: place.entry_pages(),
@@ -301,7 +305,7 @@ impl OpRun {
             at: file,
             word: Operand::Known(KIND_FILE),
         };
-        let link = plan_link(alloc, dir, &place, name_of(&self.command), file)?;
+        let link = plan_link(alloc, dir, &place, name_of(command), file)?;
         let plan = link.prepared_by(kind, 1)?;
         let run = StoreRun::begin(plan, Vec::from_slice(alloc, pages)?);
         Ok(self.store(run, &Answer::Done, now))
@@ -309,9 +313,9 @@ impl OpRun {
 
     // The last store of the plan was answered.
     fn store(&mut self, mut run: StoreRun, answer: &Answer, now: u32) -> OpStep
-        ensures call { IsSameCall self.old self.new }
+        ensures mapped { self.new.mapped ≡ self.old.mapped }
         ensures acts { IsStep self.old.mapped result }
-        ensures gives { After self.old (λ m c. StageKnows m c (stage.Storing run) answer.now) self.new result }
+        ensures gives { (command : Command) → After self.old command (λ m c. StageKnows m c (stage.Storing run) answer.now) self.new result }
     {
         match run.next(answer, now) {
             StoreStep::Act(action, mark) => {

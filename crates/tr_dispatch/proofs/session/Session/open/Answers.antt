@@ -1,7 +1,5 @@
-use Rattle.std.proofs.Common.{rules, ap, sym, subst, ◌∙◌}
+use Rattle.std.proofs.Common.{rules, ap, ◌∙◌}
 use Rattle.kern_model.specs.Rights.{only_pkru}
-use Rattle.tr_types.specs.declared.command.Command.{Command}
-use Rattle.zo_ops.specs.Knows.{BeginKnows}
 use Rattle.tr_dispatch.proofs.Exits.{open_built, open_gives}
 use Rattle.tr_dispatch.proofs.session.Session.open.Goals as goal
 
@@ -10,11 +8,6 @@ returns-clause-built c = open_built c.writes.result c.in-Some.mapped.key c.only-
 
 pub returns-clause-gives : goal.returns-clause-gives
 returns-clause-gives c =
-    let copied = c.in_ok-command.ensures in
-    let begun = c.in_ok-begin.ensures in
-    open_gives c.args.self.now.thread c.args.self.now.command c.args.answer.now c.in-Some.mapped c.in_ok-begin.field-0 c.only-pkru.result.0 c.in-Some.ensures
-    (record {
-      command_is = begun.command ∙ copied;
-      knows = λ first s k. begun.knows first s (subst (λ (d : Command). BeginKnows c.in-Some.mapped d s) (sym copied) k);
-    })
+    open_gives c.args.self.now.thread c.args.self.now.command c.args.answer.now c.in-Some.mapped c.in_ok-op.op c.only-pkru.result.0 c.in-Some.ensures
+    c.in_ok-op.ensures.knows
     (c.only-pkru.ensures ∙ ap (only_pkru c.in-Some.mapped.key) c.writes.ensures)
