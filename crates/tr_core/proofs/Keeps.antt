@@ -310,11 +310,6 @@ module _ (opening : List ℕ) (trace : List Entry) (m : MachineView) (places : L
   pub ready_all : (thread : ℕ) (waiting : Waiting) → place_in places thread ≡ Some waiting → RunsOn waiting.call.value.session.stage waiting.call.value.next × GivesAction waiting.call.value.next
   ready_all thread waiting has = let ready = ready_now (world_after opening trace) m (place_in places) stands_now thread waiting has in (ready.runs, ready.gives)
 
-  -- a thread that has a call was started
-  pub caller_started : (thread : ℕ) (waiting : Waiting) → place_in places thread ≡ Some waiting → HasThread now thread
-  caller_started thread waiting has =
-      subst (λ c. HasThread c thread) now_is (ready_now (world_after opening trace) m (place_in places) stands_now thread waiting has).knows.sits.lives.0
-
   pub started_all : (thread : ℕ) → HasThread now thread → ThreadWasStarted m.bus thread
   started_all thread was = subst (λ (b : Bus). ThreadWasStarted b thread) (sym stands_now.bus) (of_fields (λ c. HasThread c thread) was)
 
