@@ -5,7 +5,7 @@ use Rattle.zo_model.specs.Directory.{Leads, IsEntry}
 use Rattle.tr_types.specs.declared.action.Answer.{Answer}
 use Rattle.tr_types.specs.declared.action.Answer.TheVariants as answer
 use Rattle.zo_hash_dir.specs.Scene.{Scene, IsPageOf, IsRead}
-use Rattle.zo_hash_dir.specs.Looking.{link_behind, LeadsAstray}
+use Rattle.zo_hash_dir.specs.Looking.{link_behind, LeadsAstray, LeadsTooFar}
 use Rattle.zo_hash_dir.specs.declared.list.ListRun.{ListRun}
 use Rattle.zo_hash_dir.specs.declared.list.Asked.{Asked}
 use Rattle.zo_hash_dir.specs.declared.list.Asked.TheVariants as list
@@ -107,3 +107,6 @@ list_loads_left l = first_load l.asked + (255 - l.bucket) + (l.most - l.names)
 abbrev pub ListLoadsFewer : ListStep → ℕ → ListRun → Type 0
 ListLoadsFewer (list_step.Load addr) before l = list_loads_left l < before
 ListLoadsFewer step before l = Unit {0}
+
+abbrev pub ListWantsMore : ListRun → Answer → Type 0
+ListWantsMore l given = LeadsTooFar (l.most - l.names) given

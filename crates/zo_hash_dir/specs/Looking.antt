@@ -235,3 +235,13 @@ LoadsFewer step before l = Unit {0}
 abbrev pub IsLast : LookStep → Type 0
 IsLast (look_step.Load addr) = ⊥
 IsLast step = Unit {0}
+
+-- the answer leads on to one entry more than may be visited
+pub record LeadsTooFar (visits : ℕ) (given : Answer) : Type 0 where
+  pub word : ℕ
+  pub given_is : given ≡ answer.Word word
+  pub entry : IsEntryAddress word
+  pub none : visits ≡ 0
+
+abbrev pub WantsMore : Lookup → Answer → Type 0
+WantsMore l given = LeadsTooFar l.left given

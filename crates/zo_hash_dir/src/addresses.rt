@@ -47,6 +47,13 @@ pub(crate) fn is_target(word: u64) -> bool
     word == CHILD_COFFER || is_page(word)
 }
 
+/// Whether a word has the address of an entry.
+pub(crate) fn is_entry(word: u64) -> bool
+    ensures { IsTrue result ↔ IsEntryAddress word }
+{
+    matches!(entry_link(word), Link::To(_))
+}
+
 fn is_page(word: u64) -> bool
     ensures { IsTrue result ↔ IsPageAddress word }
 {

@@ -1,13 +1,13 @@
 // Going through the names of a directory, one load at a time.
-ghost use Rattle.std.specs.Prelude.{◌≡◌, ◌≢◌, ℕ, ◌+◌, ◌-◌, ◌*◌, ◌<◌, ◌≤◌};
+ghost use Rattle.std.specs.Prelude.{◌≡◌, ◌≢◌, ℕ, ◌+◌, ◌-◌, ◌*◌, ◌<◌, ◌≤◌, IsTrue};
 ghost use Rattle.zo_layout.specs.Layout as layout;
 ghost use Rattle.tr_types.specs.declared.action.Answer.{Answer};
 ghost use Rattle.tr_types.specs.declared.action.Answer.TheVariants as answer;
 ghost use Rattle.zo_hash_dir.specs.Scene.{Scene, IsShown};
 ghost use Rattle.zo_hash_dir.specs.Looking.{LeadsAstray};
-ghost use Rattle.zo_hash_dir.specs.Counting.{At, at_of, asked_word, Counts, CountsAll, ListKnows, ListKnowsAt, ListGives, IsListDamage, TellsListDamage, list_led_by, list_loads_left, ListLoadsFewer};
+ghost use Rattle.zo_hash_dir.specs.Counting.{At, at_of, asked_word, Counts, CountsAll, ListKnows, ListKnowsAt, ListGives, IsListDamage, TellsListDamage, list_led_by, list_loads_left, ListLoadsFewer, ListWantsMore};
 
-use crate::addresses::{entry_link, loaded};
+use crate::addresses::{entry_link, is_entry, loaded};
 use tr_types::Answer;
 use zo_layout::{ENTRIES_OF_PAGE, bucket_head, next_entry};
 use zo_plan::{Addr, Link};
@@ -74,6 +74,16 @@ impl ListRun {
         match loaded(answer) {
             Some(word) => self.follow(word),
             None => ListStep::Damaged(self.led_by()),
+        }
+    }
+
+    /// Whether this answer to the last load leads on to an entry, and no more may be visited.
+    pub fn wants_more(&self, answer: &Answer) -> bool
+        ensures { IsTrue result → ListWantsMore self.now answer.now }
+    {
+        match loaded(answer) {
+            Some(word) => self.names >= self.most && is_entry(word),
+            None => false,
         }
     }
 

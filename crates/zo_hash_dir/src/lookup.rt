@@ -1,14 +1,14 @@
 // Finding a name in a directory, one load at a time.
-ghost use Rattle.std.specs.Prelude.{◌≡◌, ◌≢◌, ℕ, ◌+◌, ◌*◌, ◌/◌, ◌<◌, List, length};
+ghost use Rattle.std.specs.Prelude.{◌≡◌, ◌≢◌, ℕ, ◌+◌, ◌*◌, ◌/◌, ◌<◌, List, length, IsTrue};
 ghost use Rattle.zo_layout.specs.Layout as layout;
 ghost use Rattle.zo_model.specs.Directory.{name_at};
 ghost use Rattle.tr_types.specs.declared.action.Answer.{Answer};
 ghost use Rattle.tr_types.specs.declared.action.Answer.TheVariants as answer;
 ghost use Rattle.zo_hash_dir.specs.Scene.{Scene, IsShown, CanMake};
 ghost use Rattle.zo_hash_dir.specs.Addresses.{IsTarget, IsEntryAddress, IsPageAddress};
-ghost use Rattle.zo_hash_dir.specs.Looking.{aim_of, bucket_at, Walks, Agrees, IsEnd, KnowsVisit, KnowsEnd, KnowsAt, Knows, Stands, Gives, Keeps, asked_word, led_by, LeadsAstray, IsNoLink, IsBad, IsDamage, TellsDamage, FindsTarget, words_of_name, loads_after, loads_left, LoadsFewer, IsLast, HasWords};
+ghost use Rattle.zo_hash_dir.specs.Looking.{aim_of, bucket_at, Walks, Agrees, IsEnd, KnowsVisit, KnowsEnd, KnowsAt, Knows, Stands, Gives, Keeps, asked_word, led_by, LeadsAstray, IsNoLink, IsBad, IsDamage, TellsDamage, FindsTarget, words_of_name, loads_after, loads_left, LoadsFewer, IsLast, HasWords, WantsMore};
 
-use crate::addresses::{entry_link, is_target, loaded, page_link};
+use crate::addresses::{entry_link, is_entry, is_target, loaded, page_link};
 use crate::name::Name;
 use tr_types::Answer;
 use zo_layout::{
@@ -135,6 +135,16 @@ impl Lookup {
         match loaded(answer) {
             Some(word) => self.go_on(word),
             None => LookStep::Damaged(self.led_by()),
+        }
+    }
+
+    /// Whether this answer to the last load leads on to an entry, and no more may be visited.
+    pub fn wants_more(&self, answer: &Answer) -> bool
+        ensures { IsTrue result → WantsMore self.now answer.now }
+    {
+        match (self.asked, loaded(answer)) {
+            (Asked::Head | Asked::Next(_), Some(word)) => self.left == 0 && is_entry(word),
+            _ => false,
         }
     }
 
