@@ -20,3 +20,5 @@ pub mod PoolLemmas
 pub mod PopLemmas
 -- a push, step by step
 pub mod PushLemmas
+-- the machines stay on their leases
+pub mod Stays
