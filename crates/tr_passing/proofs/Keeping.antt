@@ -15,8 +15,7 @@ use Rattle.zo_model.specs.Coffers.{parent}
 use Rattle.tr_model.specs.Worlds.{Row}
 use Rattle.tr_replay.specs.Seats.{Seat}
 use Rattle.tr_replay.specs.Worlds.{Commit, World, base_after, stepped, floor, is_dropped, address_of, commit_of}
-use Rattle.tr_replay.specs.Legal.{MayCome}
-use Rattle.tr_passing.specs.Units.{Last, Units, Lasts, IsOpen, IsAtRisk, Allowed, put_last, making, lasts_in, lasts_by, row_at, is_move, units_if, units_by, units_after, kept_last}
+use Rattle.tr_passing.specs.Units.{Last, Units, Lasts, IsOpen, IsAtRisk, Allowed, put_last, making, lasts_in, lasts_by, row_at, is_move, units_if, units_by, units_after, kept_last, GoesOn}
 use Rattle.tr_passing.specs.Laws.{IsTidy, AllowedBefore, DroppedAllowed}
 use Rattle.tr_passing.proofs.Rising.{floor_rises}
 use Rattle.tr_passing.proofs.Orders.{IsNew, put_same, put_other, put_cases, commit_cases, commit_kept, new_position}
@@ -90,7 +89,7 @@ judged_more w (entry.Reply thread given) units i is = is
 judged_more w (entry.Crash choice) units i is = is
 judged_more w e units i is = is
 
-pub open_before : (w : World) (e : Entry) → IsTidy w.base → MayCome w e → (c : Commit) → IsOpen (base_after w.base e) c → IsOpen w.base c
+pub open_before : (w : World) (e : Entry) → IsTidy w.base → GoesOn w e → (c : Commit) → IsOpen (base_after w.base e) c → IsOpen w.base c
 open_before w e tidy comes c open' = let rise = floor_rises w.base e tidy comes c.addr in omega (arith, rise, open')
 
 pub allowed_before : AllowedBefore

@@ -23,8 +23,8 @@ use Rattle.zo_model.specs.Seats.{is_commit}
 use Rattle.tr_model.specs.Worlds.{Standing, IsReady, IsLost, IsQuarantined, Row, coffers_of, put}
 use Rattle.tr_replay.specs.Seats.{Seat}
 use Rattle.tr_replay.specs.Worlds.{Base, Commit, World, never, replay_of, commit_of, is_stored, address_of, table_after, harmed, moves, trees_if, trees_by, stepped}
-use Rattle.tr_replay.specs.Legal.{MayCome, IsKnownCall, IsLegalBy, IsLegalAct, IsLegalCommit, MayCommit}
-use Rattle.tr_passing.specs.Units.{Last, Units, Lasts, Allowed, put_last, making, lasts_in, lasts_by, row_at, is_move, units_if, units_by, units_after}
+use Rattle.tr_replay.specs.Legal.{IsKnownCall, IsLegalBy, IsLegalAct, IsLegalCommit, MayCommit}
+use Rattle.tr_passing.specs.Units.{Last, Units, Lasts, Allowed, put_last, making, lasts_in, lasts_by, row_at, is_move, units_if, units_by, units_after, GoesOn}
 use Rattle.tr_passing.specs.Laws.{IsTidy, IsAlone, root_standing}
 use Rattle.tr_passing.proofs.Growth.{Makes, Creates, creates, trees_grow, with_file}
 use Rattle.tr_passing.proofs.Orders.{IsNew, losing_alone}
@@ -110,7 +110,7 @@ right_by drops w s bus thread now m seat action given known has commits may =
       stored = st.stored;
     }
 
-pub right : (drops : ℕ → Bool) (w : World) (e : Entry) (a : Acts w e) (tidy : IsTidy w.base) → MayCome w e → IsLegalBy drops w e → drops w.base.count ≡ false → Right drops w tidy.alone.standing a.seat a.action a.given
+pub right : (drops : ℕ → Bool) (w : World) (e : Entry) (a : Acts w e) (tidy : IsTidy w.base) → GoesOn w e → IsLegalBy drops w e → drops w.base.count ≡ false → Right drops w tidy.alone.standing a.seat a.action a.given
 right drops w e a tidy comes legal kept =
     right_by drops w tidy.alone.standing w.base.machine.bus a.thread a.now a.m a.seat a.action a.given legal'.0 comes'.2 a.commits
     (subst (λ (rows : List Row). MayCommit (coffers_of rows (w.replays drops).trees) a.seat a.action) tidy.alone.is (may lost))
@@ -121,8 +121,8 @@ right drops w e a tidy comes legal kept =
     legal' : IsLegalBy drops w act
     legal' = subst (IsLegalBy drops w) a.entry_is legal
 
-    comes' : MayCome w act
-    comes' = subst (MayCome w) a.entry_is comes
+    comes' : GoesOn w act
+    comes' = subst (GoesOn w) a.entry_is comes
 
     judged' : moves false w.base act a.seat ≡ true
     judged' = ap (λ (x : Entry). moves false w.base x a.seat) (sym a.entry_is) ∙ a.judged
@@ -193,7 +193,7 @@ module _ (w : World) (units : Units) (tidy : IsTidy w.base) (thread now : ℕ) (
     trees_are = λ drops. ap (λ (o : Option Seat). trees_by (drops w.base.count) w.base (w.replays drops) e m given o) runs ∙ ap (λ (b : Bool). trees_if b w.base (w.replays drops) seat) (none (drops w.base.count));
   }
 
-  module _ (seat : Seat) (runs : w.base.seats thread ≡ Some seat) (commits : is_commit m given ≡ true) (judged : moves false w.base e seat ≡ true) (comes : MayCome w e) (legal : IsLegalBy never w e) where
+  module _ (seat : Seat) (runs : w.base.seats thread ≡ Some seat) (commits : is_commit m given ≡ true) (judged : moves false w.base e seat ≡ true) (comes : GoesOn w e) (legal : IsLegalBy never w e) where
     acts : Acts w e
     acts = record { thread = thread; now = now; m = m; action = action; given = given; seat = seat; entry_is = refl; runs = runs; commits = commits; judged = judged }
 
@@ -248,7 +248,7 @@ module _ (w : World) (units : Units) (tidy : IsTidy w.base) (thread now : ℕ) (
       kept = kept;
     }
 
-  act_kind : (o : Option Seat) → w.base.seats thread ≡ o → MayCome w e → IsLegalBy never w e → Kind w e units tidy.alone.standing
+  act_kind : (o : Option Seat) → w.base.seats thread ≡ o → GoesOn w e → IsLegalBy never w e → Kind w e units tidy.alone.standing
   unfolding Kind
   act_kind None runs comes legal = inl (record {
     units_are = ap (λ (o : Option Seat). units_by w e thread m action given o units) runs;
@@ -276,7 +276,7 @@ module _ (w : World) (units : Units) (tidy : IsTidy w.base) (thread now : ℕ) (
       by true commits true is = inr (inr (moves_it seat runs commits is comes legal))
 
 -- each entry rests, tells or moves
-pub kind_of : (w : World) (e : Entry) (units : Units) (tidy : IsTidy w.base) → MayCome w e → IsLegalBy never w e → Rests w e units ⊎ (Tells w e units ⊎ Moves w e units tidy.alone.standing)
+pub kind_of : (w : World) (e : Entry) (units : Units) (tidy : IsTidy w.base) → GoesOn w e → IsLegalBy never w e → Rests w e units ⊎ (Tells w e units ⊎ Moves w e units tidy.alone.standing)
 unfolding Kind
 kind_of w (entry.Act thread now m action given) units tidy comes legal = act_kind w units tidy thread now m action given (w.base.seats thread) refl comes legal
 kind_of w (entry.Reply thread given) units tidy comes legal = inr (inl (record { thread = thread; entry_is = refl; last_is = refl; trees_are = λ drops. refl }))

@@ -16,13 +16,12 @@ use Rattle.zo_model.specs.Tree.{same_names}
 use Rattle.zo_model.specs.Answers.{consulted}
 use Rattle.zo_model.specs.Coffers.{parent}
 use Rattle.zo_model.specs.Legal.{is_lost}
-use Rattle.zo_model.specs.Seats.{is_commit}
 use Rattle.tr_model.specs.Worlds.{Standing, IsReady, IsLost, IsQuarantined, Row, coffers_of, losing, lost_standing, root_row, cred_of}
 use Rattle.tr_replay.specs.Seats.{Seat, committed_after, seat_after}
-use Rattle.tr_replay.specs.Worlds.{Base, Commit, World, never, base_after, stepped, commit_of, committing, commits_after, harmed, moves, seat_of, seated}
-use Rattle.tr_replay.specs.Legal.{MayCome, IsInCall}
+use Rattle.tr_replay.specs.Worlds.{Base, Commit, World, never, base_after, stepped, commit_of, committing, commits_after, harmed, moves, seat_of, seated, has_lease}
+use Rattle.tr_replay.specs.Legal.{IsInCall}
 use Rattle.tr_replay.specs.Crashes.{IsUnanswered, IsLastUnder}
-use Rattle.tr_passing.specs.Units.{Last, Units, IsOpen, put_last, is_move, units_if, units_by, units_after, kept_last}
+use Rattle.tr_passing.specs.Units.{Last, Units, IsOpen, put_last, is_move, units_if, units_by, units_after, kept_last, GoesOn}
 use Rattle.tr_passing.specs.Laws.{IsTidy, IsAlone, IsReadyAlone, IsOrdered, HasUnit, Owes, OrderedMore, root_standing}
 use Rattle.tr_passing.proofs.Orders.{IsNew, put_same, put_other, put_cases, contains_first, commit_cases, commit_kept, new_position, new_same, tidy_more}
 use Rattle.tr_passing.proofs.Moves.{Acts, Rests, Tells, Moves, right, kind_of, allowed_never, new_last}
@@ -108,27 +107,19 @@ module _ (w : World) (units : Units) (e : Entry) (tidy : IsTidy w.base) (ordered
   acted c thread now m action given is ready u = by (cases_eq c.thread thread)
     where
       after : Option Seat
-      after = seated w.base.count thread now m action given (w.base.seats thread)
+      after = seated (has_lease w.base) w.base.count thread now m action given (w.base.seats thread)
 
-      none : c.thread ≡ thread → is_commit m given ≡ true → ⊥
-      none same commits =
-          let acts : Acts w e = record { thread = thread; now = now; m = m; action = action; given = given; seat = u.seat; entry_is = is; runs = ap w.base.seats (sym same) ∙ u.runs; commits = commits; judged = ready_moves w.base e u.seat ready } in
-          let r = right never w e acts tidy owes.comes (owes.sure never (allowed_never w units)) refl in
-          let both : None ≡ Some c.position = sym r.first ∙ u.committed in
-          cc
-
-      off : c.thread ≡ thread → (t : Bool) → is_commit m given ≡ t → committed_after w.base.count m given u.seat.committed ≡ Some c.position
-      off same true commits = absurd (none same commits)
-      off same false commits = ap (λ (t : Bool). cond t (Some w.base.count) u.seat.committed) commits ∙ u.committed
+      off : committed_after w.base.count m given u.seat.committed ≡ Some c.position
+      off = ap (λ (o : Option ℕ). committed_after w.base.count m given o) u.committed
 
       by : (c.thread ≡ thread) ⊎ (c.thread ≡ thread → ⊥) → IsUnanswered (base_after w.base (entry.Act thread now m action given)) c
-      by (inr ne) = record { seat = u.seat; runs = put_other w.base.seats thread c.thread (seated w.base.count thread now m action given (w.base.seats thread)) ne ∙ u.runs; committed = u.committed }
+      by (inr ne) = record { seat = u.seat; runs = put_other w.base.seats thread c.thread (seated (has_lease w.base) w.base.count thread now m action given (w.base.seats thread)) ne ∙ u.runs; committed = u.committed }
       by (inl same) = record {
-        seat = seat_after w.base.count thread now m action given u.seat;
+        seat = seat_after (has_lease w.base) w.base.count thread now m action given u.seat;
         runs =
-            put_same w.base.seats thread c.thread (seated w.base.count thread now m action given (w.base.seats thread)) same
-            ∙ ap (λ (o : Option Seat). seated w.base.count thread now m action given o) (ap w.base.seats (sym same) ∙ u.runs);
-        committed = off same (is_commit m given) refl;
+            put_same w.base.seats thread c.thread (seated (has_lease w.base) w.base.count thread now m action given (w.base.seats thread)) same
+            ∙ ap (λ (o : Option Seat). seated (has_lease w.base) w.base.count thread now m action given o) (ap w.base.seats (sym same) ∙ u.runs);
+        committed = off;
       }
 
   replied : (c : Commit) (thread : ℕ) (given : Rattle.tr_types.specs.declared.command.Reply.Reply) → e ≡ entry.Reply thread given → IsReadyAlone w.base → Contains w.base.commits c → IsOpen w.base c → IsUnanswered w.base c
@@ -154,17 +145,23 @@ module _ (w : World) (units : Units) (e : Entry) (tidy : IsTidy w.base) (ordered
   seat_stays c ready there open' (entry.Call thread command) is u = called c thread command is u
   seat_stays c ready there open' (entry.Act thread now m action given) is u = acted c thread now m action given is ready u
   seat_stays c ready there open' (entry.Reply thread given) is u = replied c thread given is (ready_before w.base e tidy ready) there open' u
-  seat_stays c ready there open' (entry.Crash choice) is u = absurd (subst (MayCome w) is owes.comes)
+  seat_stays c ready there open' (entry.Crash choice) is u = absurd (subst (GoesOn w) is owes.comes)
   seat_stays c ready there open' x is u = record { seat = u.seat; runs = u.runs; committed = u.committed }
 
-  new_unanswered : (c : Commit) → IsNew w.base e c → IsUnanswered (base_after w.base e) c
-  new_unanswered c new = subst (λ (x : Entry). IsUnanswered (base_after w.base x) c) (sym new.entry_is) (record {
-    seat = seat_after w.base.count new.thread new.now new.m (Store new.addr new.word) Done new.seat;
+  new_first : (c : Commit) (new : IsNew w.base e c) → IsReadyAlone (base_after w.base e) → new.seat.committed ≡ None
+  new_first c new ready =
+      let acts : Acts w e = record { thread = new.thread; now = new.now; m = new.m; action = Store new.addr new.word; given = Done; seat = new.seat; entry_is = new.entry_is; runs = new.runs; commits = new.commits; judged = ready_moves w.base e new.seat ready } in
+      (right never w e acts tidy owes.comes (owes.sure never (allowed_never w units)) refl).first
+
+  new_unanswered : (c : Commit) → IsNew w.base e c → IsReadyAlone (base_after w.base e) → IsUnanswered (base_after w.base e) c
+  new_unanswered c new ready = subst (λ (x : Entry). IsUnanswered (base_after w.base x) c) (sym new.entry_is) (record {
+    seat = seat_after (has_lease w.base) w.base.count new.thread new.now new.m (Store new.addr new.word) Done new.seat;
     runs =
-        put_same w.base.seats new.thread c.thread (seated w.base.count new.thread new.now new.m (Store new.addr new.word) Done (w.base.seats new.thread)) (ap (λ (x : Commit). x.thread) new.is)
-        ∙ ap (λ (o : Option Seat). seated w.base.count new.thread new.now new.m (Store new.addr new.word) Done o) new.runs;
+        put_same w.base.seats new.thread c.thread (seated (has_lease w.base) w.base.count new.thread new.now new.m (Store new.addr new.word) Done (w.base.seats new.thread)) (ap (λ (x : Commit). x.thread) new.is)
+        ∙ ap (λ (o : Option Seat). seated (has_lease w.base) w.base.count new.thread new.now new.m (Store new.addr new.word) Done o) new.runs;
     committed =
-        ap (λ (t : Bool). cond t (Some w.base.count) new.seat.committed) new.commits ∙ ap (λ (x : Commit). Some x.position) (sym new.is);
+        ap (λ (o : Option ℕ). committed_after w.base.count new.m Done o) (new_first c new ready)
+        ∙ ap (λ (t : Bool). cond t (Some w.base.count) None) new.commits ∙ ap (λ (x : Commit). Some x.position) (sym new.is);
   })
 
   abbrev Kind : Type 0
@@ -260,7 +257,7 @@ module _ (w : World) (units : Units) (e : Entry) (tidy : IsTidy w.base) (ordered
       by (inl old) =
           let before = open_before w e tidy owes.comes c open' in
           seat_stays c ready old before e refl (ordered.unanswered (ready_before w.base e tidy ready) c old before)
-      by (inr new) = new_unanswered c new
+      by (inr new) = new_unanswered c new ready
 
   under : (c : Commit) → Contains (commits_after w.base e) c → IsOpen (base_after w.base e) c → IsLastUnder (base_after w.base e) c
   under c there open' later lease other later_there less own theirs same =

@@ -1,4 +1,5 @@
 -- What an entry leaves of commits, seats and the table.
+use Rattle.tr_passing.specs.Units.{Goes}
 use Rattle.std.proofs.Common.{◌≡◌, ℕ, ◌+◌, ◌/◌, ◌<◌, ◌≤◌, ◌==◌, zero, suc, Bool, true, false, cond, ◌&&◌, if◌then◌else◌, List, [], ◌∷◌, refl, sym, ap, subst, ◌∙◌, inl, inr, ◌⊎◌, arith, Contains, Option, Some, None}
 use Rattle.std.proofs.lemmas.Bool.{cases_eq, eq-eqb, ne_eqb, false≢true}
 use Rattle.tr_types.specs.declared.action.Action.{Action}
@@ -10,12 +11,11 @@ use Rattle.tr_types.specs.declared.entry.Entry.{Entry}
 use Rattle.tr_types.specs.declared.entry.Entry.TheVariants as entry
 use Rattle.tr_types.specs.declared.entry.Mark.{Mark}
 use Rattle.tr_types.specs.declared.permission.Cred.{Cred}
-use Rattle.bus_model.specs.Machine.{Fits}
 use Rattle.zo_model.specs.Tree.{same_names}
 use Rattle.zo_model.specs.Seats.{is_commit}
 use Rattle.tr_model.specs.Worlds.{Standing, Row, lose, losing, lost_standing, put, cred_of}
 use Rattle.tr_replay.specs.Seats.{Seat, committed_after, seat_after}
-use Rattle.tr_replay.specs.Worlds.{Base, Commit, commit_of, committing, commits_after, is_stored, seat_of, seated, seats_after, raised, is_change, is_done, address_of, tops_after, harmed}
+use Rattle.tr_replay.specs.Worlds.{Base, Commit, commit_of, committing, commits_after, is_stored, seat_of, seated, seats_after, raised, is_change, is_done, address_of, tops_after, harmed, has_lease}
 use Rattle.tr_passing.specs.Laws.{IsAlone, TidyMore, root_standing}
 use Rattle.tr_passing.proofs.Rising.{tops_rise, low_after}
 
@@ -78,14 +78,14 @@ act_shape b thread now m action given (Some seat) is = by (is_commit m given && 
     by false e = inl refl
     by true e = let parts = and_parts (is_commit m given) (is_stored action given) e in inr (stored_shape b thread now m action given seat is parts.0 parts.1)
 
-pub commits_shape : (b : Base) (e : Entry) → Fits b.machine e → Shape b e (commits_after b e)
+pub commits_shape : (b : Base) (e : Entry) → Goes b.machine e → Shape b e (commits_after b e)
 unfolding Shape
 commits_shape b (entry.Act thread now m action given) fits = act_shape b thread now m action given (b.seats thread) refl
 commits_shape b (entry.Crash choice) fits = absurd fits
 commits_shape b e fits = inl refl
 
 -- each change stood before, or comes about by the entry
-pub commit_cases : (b : Base) (e : Entry) → Fits b.machine e → (c : Commit) → Contains (commits_after b e) c → Contains b.commits c ⊎ IsNew b e c
+pub commit_cases : (b : Base) (e : Entry) → Goes b.machine e → (c : Commit) → Contains (commits_after b e) c → Contains b.commits c ⊎ IsNew b e c
 unfolding Shape
 commit_cases b e fits c there = by (commits_shape b e fits)
   where
@@ -97,7 +97,7 @@ commit_cases b e fits c there = by (commits_shape b e fits)
         own (inl at) = inr (subst (IsNew b e) (sym at) new)
         own (inr old) = inl old
 
-pub commit_kept : (b : Base) (e : Entry) → Fits b.machine e → (c : Commit) → Contains b.commits c → Contains (commits_after b e) c
+pub commit_kept : (b : Base) (e : Entry) → Goes b.machine e → (c : Commit) → Contains b.commits c → Contains (commits_after b e) c
 unfolding Shape
 commit_kept b e fits c there = by (commits_shape b e fits)
   where
@@ -139,7 +139,7 @@ raised_alike : (b : Bool) (at : ℕ) (tops : ℕ → ℕ) (addr other : ℕ) →
 raised_alike true at tops addr other same e = (λ i. if same i == at / 8 then e i + 1 else e i)
 raised_alike false at tops addr other same e = e
 
-alike_after : (b : Base) (e : Entry) → Fits b.machine e → (addr other : ℕ) → addr / 8 ≡ other / 8 → b.tops addr ≡ b.tops other → tops_after b e addr ≡ tops_after b e other
+alike_after : (b : Base) (e : Entry) → Goes b.machine e → (addr other : ℕ) → addr / 8 ≡ other / 8 → b.tops addr ≡ b.tops other → tops_after b e addr ≡ tops_after b e other
 alike_after b (entry.Act thread now m action given) fits addr other same is = raised_alike (is_change action given) (address_of action) b.tops addr other same is
 alike_after b (entry.Stray thread at word given) fits addr other same is = raised_alike (is_done given) at b.tops addr other same is
 alike_after b (entry.Crash choice) fits addr other same is = absurd fits
@@ -179,17 +179,18 @@ called_below count (Some cred) command position seat e at =
     by None one two = absurd (let isnt : ⊥ = cc in isnt)
 
 committed_below : (count position : ℕ) (m : Mark) (given : Answer) (committed : Option ℕ) → (committed ≡ Some position → position < count) → committed_after count m given committed ≡ Some position → position < count + 1
-committed_below count position m given committed before e = by (is_commit m given) e
+committed_below count position m given (Some first) before e = let lt = before e in omega (arith, lt)
+committed_below count position m given None before e = by (is_commit m given) e
   where
-    by : (t : Bool) → cond t (Some count) committed ≡ Some position → position < count + 1
+    by : (t : Bool) → cond t (Some count) None ≡ Some position → position < count + 1
     by true e = let is = some_position count position e in omega (arith, is)
-    by false e = let lt = before e in omega (arith, lt)
+    by false e = none_position position e
 
-acted_below : (count thread now : ℕ) (m : Mark) (action : Action) (given : Answer) (o : Option Seat) → SeatsBelow count o → SeatsBelow (count + 1) (seated count thread now m action given o)
+acted_below : (has : ℕ → Bool) (count thread now : ℕ) (m : Mark) (action : Action) (given : Answer) (o : Option Seat) → SeatsBelow count o → SeatsBelow (count + 1) (seated has count thread now m action given o)
 unfolding SeatsBelow
-acted_below count thread now m action given None below position seat e at = absurd (let isnt : ⊥ = cc in isnt)
-acted_below count thread now m action given (Some old) below position seat e at =
-    committed_below count position m given old.committed (λ is. below position old refl is) (ap (λ (x : Seat). x.committed) (some_seat (seat_after count thread now m action given old) seat e) ∙ at)
+acted_below has count thread now m action given None below position seat e at = absurd (let isnt : ⊥ = cc in isnt)
+acted_below has count thread now m action given (Some old) below position seat e at =
+    committed_below count position m given old.committed (λ is. below position old refl is) (ap (λ (x : Seat). x.committed) (some_seat (seat_after has count thread now m action given old) seat e) ∙ at)
   where
     some_seat : (s t : Seat) → Some s ≡ Some t → s ≡ t
     some_seat s t e = cc
@@ -213,7 +214,7 @@ seats_below : (b : Base) (e : Entry) → ((t : ℕ) → SeatsBelow b.count (b.se
 seats_below b (entry.Call thread command) all t =
     put_below (b.count + 1) b.seats thread (seat_of (cred_of b.machine.bus thread) command) (λ u. more_below b.count (b.seats u) (all u)) (called_below (b.count + 1) (cred_of b.machine.bus thread) command) t
 seats_below b (entry.Act thread now m action given) all t =
-    put_below (b.count + 1) b.seats thread (seated b.count thread now m action given (b.seats thread)) (λ u. more_below b.count (b.seats u) (all u)) (acted_below b.count thread now m action given (b.seats thread) (all thread)) t
+    put_below (b.count + 1) b.seats thread (seated (has_lease b) b.count thread now m action given (b.seats thread)) (λ u. more_below b.count (b.seats u) (all u)) (acted_below (has_lease b) b.count thread now m action given (b.seats thread) (all thread)) t
 seats_below b (entry.Reply thread reply) all t = put_below (b.count + 1) b.seats thread None (λ u. more_below b.count (b.seats u) (all u)) (none_below (b.count + 1)) t
 seats_below b (entry.Crash choice) all t = none_below (b.count + 1)
 seats_below b e all t = more_below b.count (b.seats t) (all t)

@@ -266,12 +266,12 @@ point_same drops w units thread now action given seat firm allowed is runs =
     s : Settled
     s = (w.replays drops).settled thread
 
-    settled_there : settled_of w.base (w.replays drops) (entry.Act thread now mark.Point action given) thread ≡ settled_after (coffers_by drops w) seat.cred seat.command mark.Point given ((w.replays drops).settled thread)
+    settled_there : settled_of w.base (w.replays drops) (entry.Act thread now mark.Point action given) thread ≡ settled_after false (coffers_by drops w) seat.cred seat.command mark.Point given ((w.replays drops).settled thread)
     settled_there =
         put_same (w.replays drops).settled thread thread (settled_by w.base (w.replays drops) (entry.Act thread now mark.Point action given) mark.Point given (w.base.seats thread) ((w.replays drops).settled thread)) refl
         ∙ ap (λ (o : Option Seat). settled_by w.base (w.replays drops) (entry.Act thread now mark.Point action given) mark.Point given o ((w.replays drops).settled thread)) runs
 
-    by : (o : Option Seat) → (barred_by (coffers_of (table_after w.base (entry.Act thread now mark.Point action given)) (trees_of (drops w.base.count) w.base (w.replays drops) (entry.Act thread now mark.Point action given))) o (settled_after (coffers_by drops w) seat.cred seat.command mark.Point given ((w.replays drops).settled thread))).pointed
+    by : (o : Option Seat) → (barred_by (coffers_of (table_after w.base (entry.Act thread now mark.Point action given)) (trees_of (drops w.base.count) w.base (w.replays drops) (entry.Act thread now mark.Point action given))) o (settled_after false (coffers_by drops w) seat.cred seat.command mark.Point given ((w.replays drops).settled thread))).pointed
         ≡ verdict_at (coffers_by drops w) seat.cred seat.command
     by None = refl
     by (Some other) = refl

@@ -1,4 +1,5 @@
 -- What an entry leaves of the places of words, and what holds in every world.
+use Rattle.tr_passing.specs.Units.{Goes}
 use Rattle.std.proofs.Common.{◌≡◌, ℕ, ◌+◌, ◌/◌, ◌<◌, ◌≤◌, ◌==◌, Bool, true, false, cond, if◌then◌else◌, List, [], ◌∷◌, ◌++◌, length, drop, get_or, set, sym, ap, subst, ◌∙◌, inl, inr, ◌⊎◌, arith, get_or-set_same, get_or-set_other}
 use Rattle.std.specs.List.{enumerate_from}
 use Rattle.std.proofs.lemmas.Bool.{cases_eq, cases_lt, cond_both, eq-eqb, ne_eqb}
@@ -7,7 +8,7 @@ use Rattle.std.proofs.lemmas.List.FromFn.{get_or-enumerate_from, length-enumerat
 use Rattle.pm_words.specs.Marks.{mark_at}
 use Rattle.pm_words.specs.Word.{Word, settled, stored, flushed, fenced}
 use Rattle.pm_words.specs.Memory.{word_at, store_at, cas_at, flush_at, fence_by, each_word}
-use Rattle.bus_model.specs.Machine.{Bus, Fits, HasText, acted, callers_of}
+use Rattle.bus_model.specs.Machine.{Bus, HasText, acted, callers_of}
 use Rattle.tr_types.specs.declared.action.Action.{Action}
 use Rattle.tr_types.specs.declared.action.Action.TheVariants.{Load, Store, Cas, Flush, Fence, Pkru, Kernel}
 use Rattle.tr_types.specs.declared.action.Answer.{Answer}
@@ -121,7 +122,7 @@ stray_steps bus tops thread at word Done addr = store_steps bus.words tops at wo
 stray_steps bus tops thread at word given addr = nothing_more bus.words tops addr
 
 -- what an entry leaves of a word's place
-pub entry_steps : (b : Base) (e : Entry) → Fits b.machine e → (addr : ℕ) → Steps b.machine.bus.words (base_after b e).machine.bus.words b.tops (base_after b e).tops addr
+pub entry_steps : (b : Base) (e : Entry) → Goes b.machine e → (addr : ℕ) → Steps b.machine.bus.words (base_after b e).machine.bus.words b.tops (base_after b e).tops addr
 entry_steps b (entry.Act thread now m action given) fits addr = act_steps b.machine.bus b.tops thread now action given addr fits.2
 entry_steps b (entry.Stray thread at word given) fits addr = stray_steps b.machine.bus b.tops thread at word given addr
 entry_steps b (entry.Mkfs pages) fits addr = nothing_more b.machine.bus.words b.tops addr
@@ -129,6 +130,7 @@ entry_steps b (entry.Process process cred) fits addr = nothing_more b.machine.bu
 entry_steps b (entry.Thread thread process) fits addr = nothing_more b.machine.bus.words b.tops addr
 entry_steps b (entry.Call thread command) fits addr = nothing_more b.machine.bus.words b.tops addr
 entry_steps b (entry.Reply thread reply) fits addr = nothing_more b.machine.bus.words b.tops addr
+entry_steps b (entry.Tick n) fits addr = nothing_more b.machine.bus.words b.tops addr
 entry_steps b e fits addr = absurd fits
 
 pub floor_rises : FloorRises
@@ -139,10 +141,10 @@ floor_rises b e tidy fits addr =
     let low = tidy.low addr in
     omega (arith, tops, older, low)
 
-pub tops_rise : (b : Base) (e : Entry) → Fits b.machine e → (addr : ℕ) → b.tops addr ≤ (base_after b e).tops addr
+pub tops_rise : (b : Base) (e : Entry) → Goes b.machine e → (addr : ℕ) → b.tops addr ≤ (base_after b e).tops addr
 tops_rise b e fits addr = let s = entry_steps b e fits addr in let tops = s.tops_are in omega (arith, tops)
 
-pub low_after : (b : Base) (e : Entry) → IsTidy b → Fits b.machine e → (addr : ℕ) → length (word_at (base_after b e).machine.bus.words addr).older ≤ (base_after b e).tops addr
+pub low_after : (b : Base) (e : Entry) → IsTidy b → Goes b.machine e → (addr : ℕ) → length (word_at (base_after b e).machine.bus.words addr).older ≤ (base_after b e).tops addr
 low_after b e tidy fits addr =
     let s = entry_steps b e fits addr in
     let tops = s.tops_are in

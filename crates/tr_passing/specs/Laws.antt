@@ -8,7 +8,6 @@ use Rattle.zo_model.specs.Answers.{answer}
 use Rattle.zo_model.specs.Legal.{verdict_of}
 use Rattle.zo_model.specs.Commands.{IsCommand}
 use Rattle.zo_model.specs.Seats.{Lease}
-use Rattle.bus_model.specs.Machine.{Fits}
 use Rattle.tr_types.specs.Fold.{Each}
 use Rattle.tr_types.specs.declared.action.Action.{Action}
 use Rattle.tr_types.specs.declared.action.Answer.{Answer}
@@ -21,9 +20,9 @@ use Rattle.tr_model.specs.Worlds.{Row, Standing, root_row}
 use Rattle.tr_replay.specs.Seats.{Seat}
 use Rattle.tr_types.specs.declared.entry.Pick.{Pick}
 use Rattle.tr_replay.specs.Worlds.{Base, Commit, World, replay_of, dropped, floor, base_after, stepped, world_of, world_after, coffers_by, coffers_at, or_dropped, places_of}
-use Rattle.tr_replay.specs.Legal.{MayCome, IsInCall, IsLegalBy, MayCommit}
+use Rattle.tr_replay.specs.Legal.{IsInCall, IsLegalBy, MayCommit}
 use Rattle.tr_replay.specs.Crashes.{IsLeft, IsReadyAt, IsUnanswered, IsLastUnder}
-use Rattle.tr_passing.specs.Units.{Last, Units, no_units, IsOpen, units_after, Allowed, node_left, count_left, members_in}
+use Rattle.tr_passing.specs.Units.{Last, Units, no_units, IsOpen, units_after, Allowed, node_left, count_left, members_in, Goes, GoesOn}
 
 -- the root coffer is the only one, however it stands
 abbrev pub root_standing : Standing → Row
@@ -46,10 +45,10 @@ pub record IsTidy (b : Base) : Type 0 where
 
 -- an entry that is none of a crash takes nothing back
 abbrev pub FloorRises : Type 0
-FloorRises = (b : Base) (e : Entry) → IsTidy b → Fits b.machine e → (addr : ℕ) → floor b addr ≤ floor (base_after b e) addr
+FloorRises = (b : Base) (e : Entry) → IsTidy b → Goes b.machine e → (addr : ℕ) → floor b addr ≤ floor (base_after b e) addr
 
 abbrev pub TidyMore : Type 0
-TidyMore = (b : Base) (e : Entry) → IsTidy b → Fits b.machine e → IsTidy (base_after b e)
+TidyMore = (b : Base) (e : Entry) → IsTidy b → Goes b.machine e → IsTidy (base_after b e)
 
 -- the change is the last of a unit
 pub record HasUnit (units : Units) (c : Commit) : Type 0 where
@@ -86,14 +85,14 @@ IsFreeOf b held = (c : Commit) → Contains b.commits c → IsOpen b c → Share
 -- only into a unit whose last one is durable, and a reply only where the call's changes are; and a change comes only under leases
 -- under which none is open.
 pub record Owes (w : World) (units : Units) (e : Entry) : Type 0 where
-  pub comes : MayCome w e
+  pub comes : GoesOn w e
   pub in_call : IsInCall w e
   pub sure : (drops : ℕ → Bool) → Allowed drops w units → IsLegalBy drops w e
   pub stays : (birth : ℕ) (names : List (List ℕ)) (last : Last) → units.last birth names ≡ Some last → IsOpen w.base last.commit → (units_after w e units).last birth names ≡ Some last
   pub leases : (c : Commit) → Contains (base_after w.base e).commits c → c.position ≡ w.base.count → IsFreeOf w.base c.held
 
 abbrev pub AllowedBefore : Type 0
-AllowedBefore = (drops : ℕ → Bool) (w : World) (units : Units) (e : Entry) → IsTidy w.base → IsOrdered w units → MayCome w e → Allowed drops (stepped w e) (units_after w e units) → Allowed drops w units
+AllowedBefore = (drops : ℕ → Bool) (w : World) (units : Units) (e : Entry) → IsTidy w.base → IsOrdered w units → GoesOn w e → Allowed drops (stepped w e) (units_after w e units) → Allowed drops w units
 
 -- Behind a crash no position that moved the trees may be dropped, so that what was then allowed before it is, and so it is together with
 -- what the crash itself drops.

@@ -1,6 +1,7 @@
 -- What a crash may still drop, told by units. A unit is a directory of a coffer: the names directly in it. Of each unit the last
 -- change is kept until its call has its reply, with what stood there before it. The world has no units: they are beside it, and only
 -- laws speak of them.
+use Rattle.bus_model.specs.Machine.{Machine, Fits}
 use Rattle.std.specs.Prelude.{◌≡◌, ℕ, ◌<◌, ◌==◌, List, [], ◌∷◌, length, filter, drop, Contains, Bool, true, false, ◌&&◌, Option, Some, None, if◌then◌else◌, nat_le}
 use Rattle.tr_types.specs.Paths.{names_of}
 use Rattle.tr_types.specs.declared.action.Action.{Action}
@@ -16,6 +17,14 @@ use Rattle.zo_model.specs.Seats.{is_commit}
 use Rattle.tr_model.specs.Worlds.{Row, put}
 use Rattle.tr_replay.specs.Seats.{Seat}
 use Rattle.tr_replay.specs.Worlds.{Base, Commit, World, replay_of, floor, is_stored, address_of, commit_of, moves}
+
+-- an entry that the machine allows, and that is no crash
+abbrev pub Goes : Machine → Entry → Type 0
+Goes m (entry.Crash choice) = ⊥
+Goes m e = Fits m e
+
+abbrev pub GoesOn : World → Entry → Type 0
+GoesOn w e = Goes w.base.machine e
 
 -- what stood at a path that a change has changed
 pub record Undo : Type 0 where
