@@ -231,7 +231,9 @@ pub record AreFreed (g : Shared) (names : List (List ℕ)) (frees : List ℕ) (f
   pub leads : Leads (at g.memory) first frees
   pub each : (entry : ℕ) → Contains frees entry → IsLoose g names entry
 
-pub record MayCommit (g : Shared) (thread now : ℕ) (names : List (List ℕ)) (name : List ℕ) (node : Node) (entry made : ℕ) : Type 0 where
+-- The commit's position is that of no entry before it.
+pub record MayCommit (g : Shared) (thread now : ℕ) (names : List (List ℕ)) (name : List ℕ) (node : Node) (entry made position : ℕ) : Type 0 where
+  pub recent : g.count ≤ position
   pub holds : Holds g thread now names
   pub raised : g.raised names ≡ true
   pub noted : noted_of g names ≡ bucket_head (dir_of g names) (bucket_of name)
@@ -263,7 +265,7 @@ May thread now (AddPage names page) g = Holds g thread now names × IsPagePrepar
 May thread now (AddFree names frees first) g = Holds g thread now names × AreFreed g names frees first
 May thread now (Prepare names entry i word) g = Holds g thread now names × IsLoose g names entry × (i < 40)
 May thread now (Draft addr word) g = (g.drawn (addr / 4096) ≡ Some thread)
-May thread now (Commit names name node entry made position) g = MayCommit g thread now names name node entry made
+May thread now (Commit names name node entry made position) g = MayCommit g thread now names name node entry made position
 May thread now (Draw pages memory grown) g = AreGiven g pages memory grown
 May thread now (Pool pool word) g = pool ≤ 7
 May thread now Reply g = (names : List (List ℕ)) (c : Commitment) → g.lasts names ≡ Some c → c.thread ≡ thread → IsOpen g.memory c → ⊥

@@ -123,16 +123,16 @@ module _ (m : Memory) (coffer : CofferAt) (tree : List Member) (page_of : List (
   rises = rises_after (Store head entry) m s.tidy
 
   -- the pages, their uses and the last commits
-  pages_other : (ns : List (List ℕ)) → ns ≢ full → pages ns ≡ page_of ns
+  pub pages_other : (ns : List (List ℕ)) → ns ≢ full → pages ns ≡ page_of ns
   pages_other ns other = cond-false (same_names ns full) made (page_of ns) (names_unlike ns full other)
 
-  pages_full : pages full ≡ made
+  pub pages_full : pages full ≡ made
   pages_full = cond-true (same_names full full) made (page_of full) ((same_names_decides full full).1 refl)
 
   uses_other : (p : ℕ) → (use_of p ≡ Nothing → ⊥) → uses p ≡ use_of p
   uses_other p some = put_use_other use_of made (Object full) p (λ same. some (ap use_of same ∙ can.useless))
 
-  uses_made : uses made ≡ Object full
+  pub uses_made : uses made ≡ Object full
   uses_made = cond-true (made == made) (Object full) (use_of made) (eq-eqb made made refl)
 
   uses_object : (p : ℕ) (ns : List (List ℕ)) → use_of p ≡ Object ns → uses p ≡ Object ns
@@ -141,10 +141,10 @@ module _ (m : Memory) (coffer : CofferAt) (tree : List Member) (page_of : List (
   grows : (ns : List (List ℕ)) (p : ℕ) → P ns p → Q ns p
   grows ns p e = record { coffers = e.coffers; entries = uses_other p (λ none. nothing_entries ns (sym none ∙ e.entries)) ∙ e.entries }
 
-  lasts_names : lasts_now names ≡ Some c
+  pub lasts_names : lasts_now names ≡ Some c
   lasts_names = cond-true (same_names names names) (Some c) (lasts names) ((same_names_decides names names).1 refl)
 
-  lasts_other : (ns : List (List ℕ)) → ns ≢ names → lasts_now ns ≡ lasts ns
+  pub lasts_other : (ns : List (List ℕ)) → ns ≢ names → lasts_now ns ≡ lasts ns
   lasts_other ns other = cond-false (same_names ns names) (Some c) (lasts ns) (names_unlike ns names other)
 
   names_full : names ≢ full
@@ -222,7 +222,7 @@ module _ (m : Memory) (coffer : CofferAt) (tree : List Member) (page_of : List (
   unfolding committed
   shows_named = subst (λ (w : ℕ → ℕ). Shows w (P names) (page_at d) (with_name want name (page_at made))) (sym words_now) (shows_linked (at m) (P names) d want name entry (page_at made) ready)
 
-  reached_split : (e : ℕ) → IsReached (at n) (page_at d) e → (entry ≡ e) ⊎ IsReached (at m) (page_at d) e
+  pub reached_split : (e : ℕ) → IsReached (at n) (page_at d) e → (entry ≡ e) ⊎ IsReached (at m) (page_at d) e
   unfolding committed
   reached_split e now = reached_linked (at m) (P names) d want name entry (page_at made) e ready (subst (λ (w : ℕ → ℕ). IsReached w (page_at d) e) words_now now)
 

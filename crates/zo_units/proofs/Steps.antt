@@ -29,7 +29,7 @@ store_spares addr value m a other =
     let word = word_aside addr value m a other in
     record { present = ap (λ (w : Word). w.present) word; top = top_aside addr value m a other; gone = 0; older = ap (λ (w : Word). w.older) word }
 
-flush_spares : (thread addr : ℕ) (m : Memory) (a : ℕ) → Spares m (flushed_in thread addr m) a
+pub flush_spares : (thread addr : ℕ) (m : Memory) (a : ℕ) → Spares m (flushed_in thread addr m) a
 flush_spares thread addr m a = record { present = present (a / 64 == addr / 64); top = refl; gone = 0; older = older (a / 64 == addr / 64) }
   where
     present : (b : Bool) → (if b then flushed thread (m.word a) else m.word a).present ≡ at m a
@@ -40,10 +40,10 @@ flush_spares thread addr m a = record { present = present (a / 64 == addr / 64);
     older true = refl
     older false = refl
 
-fence_spares : (thread : ℕ) (m : Memory) (a : ℕ) → Spares m (fenced_in thread m) a
+pub fence_spares : (thread : ℕ) (m : Memory) (a : ℕ) → Spares m (fenced_in thread m) a
 fence_spares thread m a = record { present = refl; top = refl; gone = mark_at (m.word a).marks thread; older = refl }
 
-same_spares : (m : Memory) (a : ℕ) → Spares m m a
+pub same_spares : (m : Memory) (a : ℕ) → Spares m m a
 same_spares m a = record { present = refl; top = refl; gone = 0; older = refl }
 
 store_sound : (m : Memory) (coffer : CofferAt) (tree : List Member) (page_of : List (List ℕ) → ℕ) (use_of : ℕ → Use) (lasts : Lasts) (addr value : ℕ)

@@ -29,7 +29,7 @@ nothing_entries ns e = cc
 pub control_object : (ns : List (List ℕ)) → Control ≡ Object ns → ⊥
 control_object ns e = cc
 
-control_entries : (ns : List (List ℕ)) → Control ≡ Entries ns → ⊥
+pub control_entries : (ns : List (List ℕ)) → Control ≡ Entries ns → ⊥
 control_entries ns e = cc
 
 pub object_entries : (ns os : List (List ℕ)) → Object ns ≡ Entries os → ⊥
