@@ -11,8 +11,6 @@ mod plan;
 mod reading;
 mod stage;
 mod step;
-#[cfg(test)]
-mod tests;
 
 pub use op::OpRun;
 pub use step::OpStep;
